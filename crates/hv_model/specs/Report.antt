@@ -1,0 +1,82 @@
+-- The report of a history: what each terminal shows, the states of the VCPUs, and the events.
+use Rattle.std.specs.Prelude.{ℕ, ◌==◌, Bool, if◌then◌else◌, Result, Ok, Err, List, [], ◌∷◌, ◌++◌, filter, length, codes}
+use Rattle.std.specs.Fmt.{decimal}
+use Rattle.std.specs.List.{flat_map}
+use Rattle.hv_event.specs.declared.event.ActorId.{ActorId}
+use Rattle.hv_event.specs.declared.event.ActorId.TheVariants.{Hart, Terminal}
+use Rattle.hv_event.specs.declared.event.Event.{Event}
+use Rattle.hv_event.specs.declared.reply.Reply.{Reply}
+use Rattle.hv_event.specs.declared.reply.Reply.TheVariants as reply
+use Rattle.hv_event.specs.declared.reply.Refusal.{Refusal}
+use Rattle.hv_event.specs.Line.{event_text, refusal_text}
+use Rattle.hv_model.specs.Origin.{Origin, own_script, terminals}
+use Rattle.hv_model.specs.Words.{commands_of}
+use Rattle.hv_model.specs.Legal.{boot_commands}
+
+-- A line is a text and a line feed.
+abbrev pub line : List ℕ → List ℕ
+line text = text ++ 10 ∷ []
+
+-- Bytes are shown as they are, with a line feed at their end where that is missing.
+abbrev pub shown : List ℕ → List ℕ
+shown [] = 10 ∷ []
+shown (b ∷ []) = if b == 10 then b ∷ [] else b ∷ 10 ∷ []
+shown (b ∷ c ∷ bs) = b ∷ shown (c ∷ bs)
+
+-- A command that is answered shows what it gives, and then that it is done; one that is refused shows why.
+abbrev pub answer_shown : {A : Type 0} → (A → List ℕ) → Result A Refusal → List ℕ
+answer_shown given (Ok a) = given a ++ line (codes "< ok")
+answer_shown given (Err why) = line (codes "< refused " ++ refusal_text why)
+
+-- What a reply shows.
+abbrev pub reply_shown : Reply → List ℕ
+reply_shown (reply.Cat r) = answer_shown shown r
+
+-- A terminal shows each command that it began, and what came of it.
+abbrev pub transcript : List (List ℕ) → List Event → List ℕ
+transcript [] es = []
+transcript (l ∷ ls) [] = []
+transcript (l ∷ ls) (e ∷ es) = line (codes "> " ++ l) ++ reply_shown e.reply ++ transcript ls es
+
+-- Whether an actor is this terminal.
+abbrev pub is_terminal : ℕ → ActorId → Bool
+is_terminal t (Terminal u) = t == u
+is_terminal t (Hart h) = Bool.false
+
+-- A text with a title before it, and nothing where there is no text.
+abbrev pub titled : List ℕ → List ℕ → List ℕ
+titled title [] = []
+titled title (b ∷ bs) = title ++ b ∷ bs
+
+-- A terminal that began a command has a title and its transcript.
+abbrev pub terminal_text : Origin → List Event → ℕ → List ℕ
+terminal_text O H t =
+    titled (line (codes "term " ++ decimal t))
+    (transcript (boot_commands O t ++ commands_of (own_script O t)) (filter (λ e. is_terminal t e.actor) H))
+
+-- The run's order is named by its word.
+abbrev pub order_text : Bool → List ℕ
+order_text threads = if threads then codes "threads" else codes "seq"
+
+-- The first two lines: the format's version, and what was run.
+abbrev pub heading : Origin → Bool → List ℕ
+heading O threads =
+    line (codes "xvsim 1")
+    ++ line (codes "harts " ++ decimal O.opening.harts ++ codes " turns " ++ decimal O.opening.turns ++ codes " order " ++ order_text threads)
+
+-- The states that each VCPU had; VCPU 0 is there from the start, and no step changes it yet.
+abbrev pub states_text : Bool → List ℕ
+states_text brief = line (codes "states") ++ line (if brief then codes "vcpu 0 1 Reset" else codes "vcpu 0 Reset")
+
+-- A line for each event.
+abbrev pub history_text : List Event → List ℕ
+history_text H = line (codes "history") ++ flat_map (λ e. line (event_text e)) H
+
+-- The report: the heading, the terminals, the states, the history unless it is brief, and the number of events.
+abbrev pub report : Origin → List Event → Bool → Bool → List ℕ
+report O H threads brief =
+    heading O threads
+    ++ flat_map (terminal_text O H) terminals
+    ++ states_text brief
+    ++ (if brief then [] else history_text H)
+    ++ line (codes "end " ++ decimal (length H))
