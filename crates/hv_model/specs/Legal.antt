@@ -12,7 +12,7 @@ use Rattle.hv_model.specs.Cell.{Cell, Component, Actor, is_actor, rank_of}
 use Rattle.hv_model.specs.Entry.{Entry}
 use Rattle.hv_text.specs.Lines.{script_lines}
 use Rattle.hv_words.specs.Words.{commands_of}
-use Rattle.hv_model.specs.Files.{load_files}
+use Rattle.hv_model.specs.Files.{FileMap, load_files}
 use Rattle.hv_model.specs.Terminal.{TerminalState, Scripts, IsAtBootEnd, IsAtEnd}
 use Rattle.hv_model.specs.Rules.{Value, machine}
 
@@ -101,3 +101,16 @@ module _ (O : Origin) where
   -- A history is complete where it leads to a state in which nothing is left to do.
   abbrev pub Complete : List Event → Type 0
   Complete H = (s : State (machine O)) × Leads H s × IsComplete s
+
+  -- A run that was stopped: its history leads to a state that has these files.
+  pub record IsStoppedRun (H : List Event) (files : FileMap) : Type 0 where
+    pub state : State (machine O)
+    pub legal : Leads H state
+    pub final : (state (Component component.Files)).value ≡ files
+
+  -- A run that was finished: its history leads to a state that has these files, and in which nothing is left to do.
+  pub record IsFinishedRun (H : List Event) (files : FileMap) : Type 0 where
+    pub state : State (machine O)
+    pub legal : Leads H state
+    pub complete : IsComplete state
+    pub final : (state (Component component.Files)).value ≡ files
