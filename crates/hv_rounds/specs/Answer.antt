@@ -16,4 +16,9 @@ AnswersScript (Err why) r lines = (lines ≡ None) × ((r ≡ Err why) ⊎ (r �
 -- the terminal has a further script open, of so many lines
 pub record IsOpened (t t' : Terminal) (script : List (List ℕ)) (lines : ℕ) : Type 0 where
   pub scripts : (line : List ℕ) → opened (record { line = line; boot = t.boot; own = t.own }) script ≡ record { line = line; boot = t'.boot; own = t'.own }
-  pub rest : t' ≡ record t { boot = t'.boot; own = t'.own; lines = t.lines + lines }
+  pub number : t'.number ≡ t.number
+  pub count : t'.count ≡ t.count
+  pub stamp : t'.stamp ≡ t.stamp
+  pub rests : t'.rests ≡ t.rests
+  pub lines_are : t'.lines ≡ t.lines + lines
+  pub shown : t'.shown ≡ t.shown

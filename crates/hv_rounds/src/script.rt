@@ -36,7 +36,7 @@ pub fn answer_run(found: Result<Bytes, Refusal>, depth: usize, so_far: u64) -> R
     let lines = count_lines(script.as_slice()) as u64;
     let reply = if depth >= MOST_SCRIPTS {
         Err(Refusal::TooDeep)
-    } else if so_far + lines > MOST_LINES {
+    } else if lines > MOST_LINES - so_far {
         Err(Refusal::TooLong)
     } else {
         Ok(script)

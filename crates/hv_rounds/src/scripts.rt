@@ -1,11 +1,17 @@
 //! Open scripts.
-ghost use Rattle.std.specs.Prelude.{◌≡◌, ◌↔◌, [], ◌∷◌, Some, None, IsTrue, IfOk, OnOk, MatchOption, length};
+ghost use Rattle.std.specs.Prelude.{◌≡◌, ◌↔◌, [], ◌∷◌, Some, None, All, IsTrue, IfOk, OnOk, MatchOption, length};
 ghost use Rattle.hv_model.specs.Terminal.{next_in};
 
 use hv_text::Bytes;
 use hv_words::Script;
 use std::alloc::{AllocError, Global};
 use std::marker::Model;
+
+fn are_over(scripts: &[Script]) -> bool
+    ensures { IsTrue result ↔ All (λ script. script ≡ []) scripts.now }
+{
+    scripts.iter().all(|script| script.is_over())
+}
 
 /// Open scripts, which contracts see as the list of their commands not begun, the innermost first.
 #[derive(Drop)]
@@ -52,7 +58,7 @@ impl OpenScripts {
     pub fn is_over(&self) -> bool
         ensures { IsTrue result ↔ (next_in self.now ≡ None) }
     {
-        self.scripts.iter().all(|script| script.is_over())
+        are_over(&self.scripts)
     }
 
     /// Begins the next command. A script with none left is closed.

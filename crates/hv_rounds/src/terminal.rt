@@ -1,5 +1,5 @@
 //! A terminal of a run.
-ghost use Rattle.std.specs.Prelude.{◌≡◌, ◌≤◌, ◌<◌, ◌+◌, ◌^◌, ◌↔◌, ℕ, max, Some, None, Err, IfOk, IsTrue, false};
+ghost use Rattle.std.specs.Prelude.{◌≡◌, ◌≤◌, ◌<◌, ◌+◌, ◌^◌, ◌↔◌, ℕ, max, Some, None, Err, IfOk, OnOk, IsTrue, false};
 
 use crate::scripts::OpenScripts;
 use crate::stop::Stop;
@@ -50,7 +50,7 @@ pub fn next_stamp(one: u64, other: u64) -> Result<u64, Stop>
 }
 
 impl Terminal {
-    ghost use Rattle.hv_rounds.specs.Cells.{value_of};
+    ghost use Rattle.hv_rounds.specs.Cells.{value_of, SameButScripts, MadeOne};
     ghost use Rattle.hv_model.specs.Terminal.{Begun, begun, IsAtBootEnd};
     ghost use Rattle.hv_model.specs.Rounds.{terminal_has_ended};
     ghost use Rattle.hv_rounds.specs.Step.{Makes};
@@ -75,7 +75,7 @@ impl Terminal {
         requires left { terminal_has_ended (value_of self.old) ≡ false }
         ensures line { IfOk result (λ line.
             begun (value_of self.old) ≡ Some (record { line = line; boot = self.new.boot; own = self.new.own })) }
-        ensures rest { self.new ≡ record self.old { boot = self.new.boot; own = self.new.own } }
+        ensures rest { OnOk result (SameButScripts self.old self.new) }
     {
         if let Some(line) = self.boot.begin(alloc)? {
             return Ok(line);
@@ -91,7 +91,7 @@ impl Terminal {
         requires later { self.old.stamp < stamp }
         requires in_range { stamp ≤ 2 ^ 62 }
         ensures entry { Makes self.old.number (self.old.count + 1) stamp step reply lines result }
-        ensures rest { self.new ≡ record self.old { count = self.old.count + 1; stamp = stamp } }
+        ensures rest { MadeOne self.old self.new stamp }
     {
         self.count += 1;
         self.stamp = stamp;
