@@ -1,6 +1,7 @@
 -- What a run is answered, and what it opens.
-use Rattle.std.specs.Prelude.{◌≡◌, ◌⊎◌, ℕ, ◌+◌, Option, Some, None, Result, Ok, Err, List, length}
+use Rattle.std.specs.Prelude.{◌≡◌, ◌⊎◌, ℕ, ◌+◌, ◌≤◌, Option, Some, None, Result, Ok, Err, List, length}
 use Rattle.hv_text.specs.Lines.{script_lines}
+use Rattle.hv_words.specs.Words.{commands_of}
 use Rattle.hv_event.specs.declared.reply.Refusal.{Refusal}
 use Rattle.hv_event.specs.declared.reply.Refusal.TheVariants as refusal
 use Rattle.hv_model.specs.Terminal.{Begun, opened}
@@ -22,3 +23,13 @@ pub record IsOpened (t t' : Terminal) (script : List (List ℕ)) (lines : ℕ) :
   pub rests : t'.rests ≡ t.rests
   pub lines_are : t'.lines ≡ t.lines + lines
   pub shown : t'.shown ≡ t.shown
+
+-- a script that may be opened has its lines counted, and they fit beside those that the terminal opened
+abbrev pub MayOpen : ℕ → Result (List ℕ) Refusal → Option ℕ → Type 0
+MayOpen so_far (Ok bytes) lines = (lines ≡ Some (length (script_lines bytes))) × (so_far + length (script_lines bytes) ≤ 10000)
+MayOpen so_far (Err why) lines = Unit {0}
+
+-- a run that is answered by a script opens it, and another opens nothing
+abbrev pub RunOpens : Terminal → Terminal → Result (List ℕ) Refusal → Type 0
+RunOpens t t' (Ok bytes) = IsOpened t t' (commands_of bytes) (length (script_lines bytes))
+RunOpens t t' (Err why) = t' ≡ t

@@ -36,13 +36,13 @@ FilesPart (step.Rest s) old new own e = LeavesFiles old new own e
 FilesPart _ old new own e = TouchesFiles old new own e
 
 -- an entry is the terminal's next step, and the terminal and the files are as it leaves them
-pub record IsStep (files files' : FileCell) (t t' : Terminal) (e : Entry) : Type 0 where
+pub record IsStep (old new : FileCell) (t t' : Terminal) (e : Entry) : Type 0 where
   pub actor : e.event.actor ≡ actor.Terminal t.number
   pub number : t'.number ≡ t.number
   pub agrees : TerminalAgrees (value_of t) e
   pub after : value_of t' ≡ terminal_after (value_of t) e.event
   pub stamp : t'.stamp ≡ e.event.stamp
-  pub files : FilesPart e.event.step files files' t.stamp e
+  pub files : FilesPart e.event.step old new t.stamp e
 
 -- the entry of an event of this terminal
 abbrev pub Makes : ℕ → ℕ → ℕ → Step → Reply → Option ℕ → Entry → Type 0

@@ -1,5 +1,5 @@
 //! The files of a run.
-ghost use Rattle.std.specs.Prelude.{◌≤◌, ◌^◌};
+ghost use Rattle.std.specs.Prelude.{◌≡◌, ◌≤◌, ◌^◌};
 
 use hv_files::FileTree;
 
@@ -9,4 +9,15 @@ pub struct FileCell {
     pub tree: FileTree,
     pub stamp: u64,
     ghost stamp_bounded: { stamp ≤ 2 ^ 62 },
+}
+
+impl FileCell {
+    /// Takes the stamp of a step that touched it.
+    pub fn take_stamp(&mut self, stamp: u64)
+        requires { stamp ≤ 2 ^ 62 }
+        ensures tree { self.new.tree ≡ self.old.tree }
+        ensures stamp { self.new.stamp ≡ stamp }
+    {
+        self.stamp = stamp;
+    }
 }

@@ -8,3 +8,6 @@ mod show;
 mod step;
 mod stop;
 mod terminal;
+mod whole;
+
+pub use whole::{Outcome, run};

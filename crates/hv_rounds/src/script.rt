@@ -3,7 +3,7 @@ ghost use Rattle.std.specs.Prelude.{◌≡◌, ◌≢◌, ◌≤◌, ◌<◌, �
 ghost use Rattle.hv_text.specs.Lines.{script_lines};
 ghost use Rattle.hv_words.specs.Words.{commands_of};
 ghost use Rattle.hv_model.specs.Terminal.{opened, scripts_of, RunAnswers};
-ghost use Rattle.hv_rounds.specs.Answer.{AnswersScript, IsOpened};
+ghost use Rattle.hv_rounds.specs.Answer.{AnswersScript, IsOpened, MayOpen, RunOpens};
 
 use crate::terminal::Terminal;
 use hv_event::Refusal;
@@ -28,6 +28,7 @@ pub fn answer_run(found: Result<Bytes, Refusal>, depth: usize, so_far: u64) -> R
     requires not_deep { found ≢ Err Refusal.TooDeep }
     ensures found { AnswersScript found result.reply result.lines }
     ensures answers { RunAnswers (nat_le 4 depth) so_far result.lines result.reply }
+    ensures opens { MayOpen so_far result.reply result.lines }
 {
     let script = match found {
         Ok(script) => script,
@@ -74,7 +75,8 @@ impl Terminal {
     /// Opens a script within the command's.
     pub fn open(&mut self, alloc: Global, script: &[u8], lines: u64) -> Result<(), AllocError>
         requires { self.old.lines + lines ≤ 10000 }
-        ensures { OnOk result (IsOpened self.old self.new (commands_of script.now) lines) }
+        ensures ok { OnOk result (IsOpened self.old self.new (commands_of script.now) lines) }
+        ensures shown { self.new.shown ≡ self.old.shown }
     {
         let script = Script::new(Bytes::from_vec(Vec::from_slice(alloc, script)?));
         if self.boot.depth() == 0 {
@@ -84,5 +86,17 @@ impl Terminal {
         }
         self.lines += lines;
         Ok(())
+    }
+
+    /// Opens the script that a run is answered by, if it is.
+    pub fn open_answered(&mut self, alloc: Global, answer: &RunAnswer) -> Result<(), AllocError>
+        requires { MayOpen self.old.lines answer.now.reply answer.now.lines }
+        ensures ok { OnOk result (RunOpens self.old self.new answer.now.reply) }
+        ensures shown { self.new.shown ≡ self.old.shown }
+    {
+        match &answer.reply {
+            Ok(script) => self.open(alloc, script.as_slice(), answer.lines.unwrap_or(0)),
+            Err(_) => Ok(()),
+        }
     }
 }

@@ -1,7 +1,7 @@
 //! One step of a terminal.
 ghost use Rattle.std.specs.Prelude.{◌≡◌, ◌<◌, ◌≤◌, ◌-◌, List, ℕ, IfOk, false};
 ghost use Rattle.hv_words.specs.declared.command.Command.TheVariants as command;
-ghost use Rattle.hv_words.specs.Commands.{Gives, Says};
+ghost use Rattle.hv_words.specs.Commands.{Gives};
 ghost use Rattle.hv_model.specs.Rounds.{terminal_has_ended};
 ghost use Rattle.hv_fpart.specs.Part.{IsFilesStep};
 ghost use Rattle.hv_rounds.specs.declared.terminal.Terminal.{Terminal};
@@ -16,14 +16,8 @@ use hv_event::{Bad, Cat, Ls, Mkdir, Refusal, Reply, Rest, Rm, Run, Step, Write};
 use hv_fpart::{files_part, read_part};
 use hv_model::Entry;
 use hv_text::{Bytes, Path};
-use hv_words::{Command, WordsRefusal};
-use std::alloc::{AllocError, Global};
-
-fn read_command(_alloc: Global, line: &[u8]) -> Result<Command, WordsRefusal>
-    ensures { Says line.now result }
-{
-    Err(WordsRefusal::Memory(AllocError))
-}
+use hv_words::{Command, WordsRefusal, read_command};
+use std::alloc::Global;
 
 /// A further step of a line that rests.
 fn rest_on(files: &FileCell, terminal: &mut Terminal) -> Result<Entry, Stop>
@@ -89,7 +83,7 @@ fn step_files(
 {
     let stamp = next_stamp(terminal.stamp, files.stamp)?;
     let reply = files_part(alloc, &mut files.tree, &step)?;
-    files.stamp = stamp;
+    files.take_stamp(stamp);
     Ok(terminal.make(stamp, step, reply, None))
 }
 
@@ -109,11 +103,10 @@ fn step_run(
 {
     let stamp = next_stamp(terminal.stamp, files.stamp)?;
     let found = read_part(alloc, &files.tree, &path)?;
-    let RunAnswer { reply, lines } = answer_run(found, terminal.depth(), terminal.lines);
-    if let Ok(script) = &reply {
-        terminal.open(alloc, script.as_slice(), lines.unwrap_or(0))?;
-    }
-    files.stamp = stamp;
+    let answer = answer_run(found, terminal.depth(), terminal.lines);
+    terminal.open_answered(alloc, &answer)?;
+    files.take_stamp(stamp);
+    let RunAnswer { reply, lines } = answer;
     Ok(terminal.make(stamp, Step::Run(Run { path }), Reply::Run(reply), lines))
 }
 

@@ -1,0 +1,22 @@
+use Rattle.std.proofs.Common.{◌≡◌, ℕ, ◌+◌, ◌-◌, Ok, refl, ap, sym, subst, ◌∙◌, arith}
+use Rattle.hv_words.specs.declared.command.Command.TheVariants as command
+use Rattle.hv_words.specs.Words.{words}
+use Rattle.hv_model.specs.declared.entry.Entry.{Entry}
+use Rattle.hv_model.specs.Terminal.{rest_count}
+use Rattle.hv_rounds.specs.Step.{IsStep}
+use Rattle.hv_rounds.proofs.Steps.{first-step, made-value, rests-as-given}
+use Rattle.hv_rounds.proofs.step.rest_first.Goals as goal
+
+pub returns-clause-ok : goal.returns-clause-ok
+returns-clause-ok c = λ t b.
+    let files = c.args.files.now in
+    let line = c.args.line.now in
+    let t1 = c.args.terminal.now in
+    let t' = c.make.new.self in
+    let Is : Entry → Type 0 = λ e. IsStep files files t t' e in
+    let rest = c.make.ensures.rest in
+    let rests = rests-as-given line c.args.count c.requires in
+    subst Is (sym c.make.ensures.entry)
+    (first-step files files t t1 t' line _ (Ok (command.TermRest c.args.count)) b c.requires (refl, refl) refl refl refl rest.number rest.stamp_is
+    (λ i. record { count = (rest.count ∙ ap (λ n. n + 1) b.count) i; rests = (rest.rests ∙ ap (λ n. n - 1) (sym rests)) i; boot = rest.boot i; own = rest.own i; lines = (rest.lines ∙ b.lines) i })
+    (record { same = refl; next = omega (arith, c.in_ok-stamp.ensures.ok) }))
