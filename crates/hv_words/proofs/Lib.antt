@@ -3,3 +3,4 @@ pub mod ScriptLemmas
 pub mod ArgumentLemmas
 pub mod TextLemmas
 pub mod Unambiguous
+pub mod PrintLemmas

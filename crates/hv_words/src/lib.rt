@@ -7,6 +7,7 @@
 
 mod argument;
 mod command;
+mod print;
 mod read;
 mod refusal;
 mod row;
@@ -15,6 +16,7 @@ mod text;
 mod word;
 
 pub use command::Command;
+pub use print::print_command;
 pub use read::{lines_are_unambiguous, read_command};
 pub use refusal::WordsRefusal;
 pub use script::{Script, count_lines};

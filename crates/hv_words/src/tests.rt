@@ -91,3 +91,28 @@ fn reads_each_row_and_its_refusals(rt: HostRuntime) {
         assert_eq!(rt; short(rt.alloc(), line), said);
     }
 }
+
+/// Whether a line is read as a command that is printed as this.
+fn prints(alloc: Global, line: &[u8], wanted: &[u8]) -> bool {
+    match read_command(alloc, line) {
+        Ok(command) => match print_command(alloc, &command) {
+            Ok(text) => text.as_slice() == wanted,
+            Err(_) => false,
+        },
+        Err(_) => false,
+    }
+}
+
+#[test]
+fn prints_what_is_read_back(rt: HostRuntime) {
+    for (line, wanted) in [
+        (b"  vfs  ls   /a/b ".as_slice(), b"vfs ls /a/b".as_slice()),
+        (b"term rest 0x0A".as_slice(), b"term rest 10".as_slice()),
+        (
+            b"vfs write /x a\\x20\\s\\x0a\\x5C\\x7F\\xfe\\x00~!".as_slice(),
+            b"vfs write /x a\\s\\s\\n\\\\\\x7f\\xfe\\x00~!".as_slice(),
+        ),
+    ] {
+        assert!(rt; prints(rt.alloc(), line, wanted));
+    }
+}
