@@ -1,7 +1,7 @@
 -- What is put into a tree or taken out leaves a tree.
-use Rattle.std.proofs.Common.{◌≡◌, ◌≢◌, ℕ, ◌<◌, ◌++◌, ◌&&◌, Bool, true, false, cond, T, List, [], ◌∷◌, length, refl, sym, ap, subst, append_assoc, ◌∙◌, arith, true≢false, is_eq, is_lt, Ordering, Less, Equal, Greater, Option, Some, None, IsSome, IsTrue, is_some, Result, Ok, Err, option_map, filter_map}
+use Rattle.std.proofs.Common.{◌≡◌, ◌≢◌, ℕ, ◌<◌, ◌++◌, ◌&&◌, Bool, true, false, cond, List, [], ◌∷◌, length, refl, sym, ap, subst, append_assoc, ◌∙◌, arith, true≢false, is_eq, Ordering, Less, Equal, Greater, Option, Some, None, IsSome, is_some, Ok, option_map}
 use Rattle.std.specs.Ordering.{eq_by_cmp, match_ordering}
-use Rattle.std.specs.List.{AllByRecursion, cons_option}
+use Rattle.std.specs.List.{cons_option}
 use Rattle.std.specs.FinMap.{find, put, is_sorted}
 use Rattle.std.specs.FinMap.Entries.{by_order, below_all, is_sorted-put, find-put}
 use Rattle.std.specs.BTreeMap.{is_at, insert_entry}
@@ -9,7 +9,7 @@ use Rattle.std.specs.Map.{remove_entry}
 use Rattle.hv_files.specs.FileMap.{Path, FileMap, Node, Folder, Holds, path_cmp, node_at, reach, names_in, name_below, listed, taken_out}
 use Rattle.hv_files.specs.Tree.{IsTree, IsOpen, IsLeaf}
 use Rattle.hv_files.proofs.Order.{paths_total, paths_apart}
-use Rattle.hv_files.proofs.Entries.{Entry, to_T, from_T, first_so, second_so}
+use Rattle.hv_files.proofs.Entries.{to_T, from_T, first_so, second_so}
 use Rattle.hv_files.proofs.Folder.{shown, name_below-own, node_at-in}
 use Rattle.hv_files.proofs.Way.{reached, fronts_are_folders, no_file}
 

@@ -1,6 +1,5 @@
 -- Entries in the order of their paths: what a look-up finds among those from a path on.
-use Rattle.std.proofs.Common.{◌≡◌, ℕ, ◌+◌, ◌<◌, ◌≤◌, ◌++◌, ◌&&◌, Bool, true, false, cond, not, T, List, [], ◌∷◌, length, filter, refl, sym, ap, subst, ◌∙◌, arith, true≢false, is_gt, is_lt, is_le, is_eq, Ordering, Less, Equal, Greater, Option, Some, None, IsSome, IsTrue, is_some}
-use Rattle.std.specs.Ordering.{eq_by_cmp}
+use Rattle.std.proofs.Common.{◌≡◌, ◌≤◌, ◌&&◌, Bool, true, false, cond, T, [], ◌∷◌, length, filter, refl, sym, ap, subst, ◌∙◌, arith, true≢false, is_gt, is_lt, is_le, is_eq, Ordering, Less, Equal, Greater, Some, None, IsTrue}
 use Rattle.std.specs.List.{AllByRecursion}
 use Rattle.std.specs.FinMap.{find, is_sorted}
 use Rattle.std.specs.FinMap.Entries.{below_all, is_sorted-where_key, find-where_key}

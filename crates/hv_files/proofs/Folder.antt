@@ -1,16 +1,16 @@
 -- What lies in a folder, among the entries from a path on.
-use Rattle.std.proofs.Common.{◌≡◌, ◌≢◌, ℕ, ◌+◌, ◌<◌, ◌≤◌, ◌++◌, ◌&&◌, Bool, true, false, cond, List, [], ◌∷◌, length, filter, filter_map, nat_eq, refl, sym, ap, subst, ◌∙◌, arith, true≢false, append_assoc, append-nil, is_gt, is_lt, is_le, Ordering, Less, Equal, Greater, Option, Some, None, IsSome, IsTrue, is_some, option_map}
+use Rattle.std.proofs.Common.{◌≡◌, ◌≢◌, ℕ, ◌<◌, ◌++◌, Bool, true, false, cond, List, [], ◌∷◌, length, filter, filter_map, nat_eq, refl, sym, ap, subst, ◌∙◌, arith, true≢false, append_assoc, is_gt, is_lt, is_le, Less, Equal, Greater, Option, Some, None, is_some, option_map}
 use Rattle.std.specs.Ordering.{ordering_then, ordering_reverse}
 use Rattle.std.proofs.lemmas.Cmp.{upto}
 use Rattle.std.specs.BTreeMap.Range.{entries_between}
 use Rattle.std.specs.declared.ops.Bound.TheVariants.{Included, Excluded, Unbounded}
 use Rattle.std.specs.List.{AllByRecursion, cons_option}
-use Rattle.std.specs.FinMap.{find, is_sorted}
+use Rattle.std.specs.FinMap.{find}
 use Rattle.std.specs.Cmp.Lexicographic.{pointwise, bytes_decides}
-use Rattle.hv_files.specs.FileMap.{Path, FileMap, Node, Folder, Holds, path_cmp, node_at, name_below, listed, names_in}
+use Rattle.hv_files.specs.FileMap.{Path, FileMap, Node, Folder, path_cmp, node_at, name_below, listed, names_in}
 use Rattle.hv_files.specs.Tree.{IsTree, from_on, IsIn, GoesThrough}
 use Rattle.hv_files.proofs.Order.{name_cmp, paths_total, cmp_behind_front, between_fronts, name_behind, name_before, just_behind, front_below}
-use Rattle.hv_files.proofs.Entries.{Entry, IsFirst, and_true, is_first, le_not_gt, not_gt_le, less_not_gt, all_mapped, all_of, find-below, find-first, find-from_on, from_on-from_on, length-filter_le}
+use Rattle.hv_files.proofs.Entries.{Entry, and_true, is_first, le_not_gt, not_gt_le, less_not_gt, all_mapped, all_of, find-below, find-first, find-from_on, from_on-from_on, length-filter_le}
 
 -- the name of an entry, where it is one of the folder's
 abbrev pub shown : Path → Entry → Option (List ℕ)

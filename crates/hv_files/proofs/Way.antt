@@ -1,5 +1,5 @@
 -- The way to a path, by single look-ups.
-use Rattle.std.proofs.Common.{◌≡◌, ◌≢◌, ℕ, zero, suc, ◌<◌, ◌++◌, Bool, true, false, cond, List, [], ◌∷◌, length, refl, sym, ap, subst, ◌∙◌, arith, true≢false, append_assoc, append-nil, is_gt, is_lt, is_eq, Ordering, Less, Equal, Greater, Option, Some, None, IsSome, is_some, Result, Ok, Err, option_to_list}
+use Rattle.std.proofs.Common.{◌≡◌, ℕ, zero, suc, ◌<◌, ◌++◌, Bool, true, false, cond, List, [], ◌∷◌, length, refl, sym, ap, subst, ◌∙◌, arith, true≢false, append_assoc, append-nil, is_gt, is_lt, is_eq, Ordering, Less, Equal, Greater, Option, Some, None, IsSome, is_some, Result, Ok, Err, option_to_list}
 use Rattle.std.specs.FinMap.{find}
 use Rattle.std.specs.declared.alloc.AllocError.{AllocError}
 use Rattle.std.specs.declared.ops.Bound.TheVariants.{Unbounded, Excluded}

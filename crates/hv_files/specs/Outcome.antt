@@ -1,5 +1,5 @@
 -- What a refusal says, where a call may also run out of memory.
-use Rattle.std.specs.Prelude.{◌≡◌, Result, Ok, Err, Option, IfSome}
+use Rattle.std.specs.Prelude.{◌≡◌, Result, Ok, Err, Option}
 use Rattle.hv_files.specs.FileMap.{Node}
 use Rattle.hv_files.specs.declared.refusal.FileRefusal.{FileRefusal}
 use Rattle.hv_files.specs.declared.refusal.FileRefusal.TheVariants.{NoEntry, NotDir, IsDir, Exists, NotEmpty, Memory}
@@ -15,5 +15,5 @@ IsDueOrMemory due (Memory e) = Unit {0}
 
 -- why nothing stands at a path: the way ends before, or its last name is missing
 abbrev pub missing_at : Result (Option Node) FileRefusal → FileRefusal
-missing_at (Ok node) = NoEntry
+missing_at (Ok reached) = NoEntry
 missing_at (Err refusal) = refusal

@@ -1,4 +1,4 @@
-use Rattle.std.proofs.Common.{ap, sym, ◌∙◌, refl, Some, None}
+use Rattle.std.proofs.Common.{sym, ◌∙◌, refl, Some, None}
 use Rattle.std.specs.BTreeMap.{is_at}
 use Rattle.std.specs.Map.{lookup}
 use Rattle.hv_files.specs.FileMap.{Folder, path_cmp, folder_made}

@@ -1,4 +1,4 @@
-use Rattle.std.proofs.Common.{◌≡◌, ◌≢◌, ℕ, ◌==◌, true, false, if◌then◌else◌, List, [], ◌∷◌, length, ap, sym, ◌∙◌, refl, Result, Ok, Err, Some, None}
+use Rattle.std.proofs.Common.{◌≡◌, ◌≢◌, ℕ, ◌==◌, if◌then◌else◌, List, [], ◌∷◌, length, ap, sym, ◌∙◌, refl, Result, Ok, Err, Some, None}
 use Rattle.std.proofs.Math.Dec.{eqb-suc-zero}
 use Rattle.hv_files.specs.FileMap.{FileMap, Folder, Holds, names_in, node_removed, taken_out}
 use Rattle.hv_files.specs.declared.refusal.FileRefusal.{FileRefusal}

@@ -1,4 +1,4 @@
-use Rattle.std.proofs.Common.{ap, sym, ◌∙◌, refl, Some, None}
+use Rattle.std.proofs.Common.{ap, sym, ◌∙◌, Some, None}
 use Rattle.hv_files.specs.FileMap.{Folder, Holds, file_written}
 use Rattle.hv_files.proofs.Way.{found, found_reach, found_answer, no_none, no_file}
 use Rattle.hv_files.proofs.Changes.{open_where}

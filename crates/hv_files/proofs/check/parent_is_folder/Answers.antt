@@ -1,4 +1,4 @@
-use Rattle.std.proofs.Common.{◌≡◌, ◌<◌, length, ap, sym, subst, ◌∙◌, Err, Some, None}
+use Rattle.std.proofs.Common.{◌<◌, length, ap, sym, subst, ◌∙◌, Err, Some, None}
 use Rattle.hv_files.proofs.Way.{found, positive, last_name, reach_in_folder, reach_in_file, reach_in_nothing, due}
 use Rattle.hv_files.proofs.check.parent_is_folder.Goals as goal
 

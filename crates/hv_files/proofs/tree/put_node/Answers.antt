@@ -1,6 +1,6 @@
 use Rattle.std.proofs.Common.{◌≡◌, ap, sym, subst, ◌∙◌}
 use Rattle.std.specs.FinMap.{put}
-use Rattle.hv_files.specs.FileMap.{FileMap, path_cmp}
+use Rattle.hv_files.specs.FileMap.{path_cmp}
 use Rattle.hv_files.specs.Tree.{IsTree}
 use Rattle.hv_files.proofs.Changes.{put-insert, tree_put}
 use Rattle.hv_files.proofs.tree.put_node.Goals as goal

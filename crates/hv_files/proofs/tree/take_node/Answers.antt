@@ -1,4 +1,4 @@
-use Rattle.std.proofs.Common.{ap, sym, subst, ◌∙◌, cond, is_eq, None}
+use Rattle.std.proofs.Common.{ap, sym, ◌∙◌, cond, is_eq, None}
 use Rattle.hv_files.specs.FileMap.{path_cmp}
 use Rattle.hv_files.proofs.Way.{find-lookup}
 use Rattle.hv_files.proofs.Changes.{taken-remove, tree_taken}

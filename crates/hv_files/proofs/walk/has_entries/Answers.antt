@@ -1,7 +1,7 @@
-use Rattle.std.proofs.Common.{◌≡◌, ℕ, Bool, List, [], ◌∷◌, ◌++◌, ap, sym, subst, ◌∙◌, Option, Some, None, IfSome, IfNone, is_some, Bor}
+use Rattle.std.proofs.Common.{◌≡◌, ℕ, Bool, List, sym, subst, ◌∙◌, Option, Some, None, IfSome, IfNone, is_some, Bor}
 use Rattle.std.specs.Bool.{OnTrue, OnFalse}
 use Rattle.hv_files.specs.FileMap.{Path}
-use Rattle.hv_files.specs.Tree.{GoesThrough, from_on}
+use Rattle.hv_files.specs.Tree.{GoesThrough}
 use Rattle.hv_files.proofs.Folder.{part_behind, some_in, none_in, empty_in}
 use Rattle.hv_files.proofs.walk.has_entries.Goals as goal
 

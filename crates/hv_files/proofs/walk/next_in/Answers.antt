@@ -1,4 +1,4 @@
-use Rattle.std.proofs.Common.{◌≡◌, ℕ, List, [], ◌∷◌, ◌++◌, ap, sym, ◌∙◌}
+use Rattle.std.proofs.Common.{◌≡◌, [], ◌∷◌, ap, sym, ◌∙◌}
 use Rattle.hv_files.specs.FileMap.{names_in}
 use Rattle.hv_files.specs.Tree.{from_on}
 use Rattle.hv_files.proofs.Folder.{part_from, no_more_in, first_is_in}

@@ -1,4 +1,4 @@
-use Rattle.std.proofs.Common.{◌≡◌, sym, subst, Result, Ok, Err, IfErr, IsErrAnd}
+use Rattle.std.proofs.Common.{sym, subst, Result, Ok, Err, IfErr, IsErrAnd}
 use Rattle.hv_files.specs.FileMap.{FileMap, with_file}
 use Rattle.hv_files.specs.Outcome.{IsDueOrMemory}
 use Rattle.hv_files.specs.declared.refusal.FileRefusal.{FileRefusal}
