@@ -26,3 +26,13 @@ pub record MadeOne (t t' : Terminal) (stamp : ℕ) : Type 0 where
   pub own : t'.own ≡ t.own
   pub lines : t'.lines ≡ t.lines
   pub shown : t'.shown ≡ t.shown
+
+-- the terminals differ in what they have shown alone
+pub record SameButShown (t t' : Terminal) : Type 0 where
+  pub number : t'.number ≡ t.number
+  pub count : t'.count ≡ t.count
+  pub stamp : t'.stamp ≡ t.stamp
+  pub rests : t'.rests ≡ t.rests
+  pub boot : t'.boot ≡ t.boot
+  pub own : t'.own ≡ t.own
+  pub lines : t'.lines ≡ t.lines

@@ -8,6 +8,7 @@ mod show;
 mod step;
 mod stop;
 mod terminal;
+mod turn;
 mod whole;
 
 pub use whole::{Outcome, run};

@@ -20,7 +20,7 @@ use hv_words::{Command, WordsRefusal, read_command};
 use std::alloc::Global;
 
 /// A further step of a line that rests.
-fn rest_on(files: &FileCell, terminal: &mut Terminal) -> Result<Entry, Stop>
+pub fn rest_on(files: &FileCell, terminal: &mut Terminal) -> Result<Entry, Stop>
     requires { 0 < terminal.old.rests }
     ensures ok { IfOk result (λ e. IsStep files.now files.now terminal.old terminal.new e) }
     ensures spent { SpentBy result terminal.old.stamp 0 }
@@ -140,7 +140,7 @@ fn step_command(
 }
 
 /// The first step of a line.
-fn step_line(
+pub fn step_line(
     alloc: Global,
     files: &mut FileCell,
     terminal: &mut Terminal,
