@@ -28,7 +28,7 @@ pub fn read_bundle(alloc: Global, bytes: &[u8]) -> Result<Vec<File>, BundleRefus
     // Every bundle is read as its files, unless memory runs out.
     ensures only { (files : List File) → IsBundle bytes.now files → Reads result files }
 
-    // Bytes are refused only where they are no bundle, with the offset at which they stop being one.
+    // Only bytes that are no bundle are refused, with the offset at which they stop being one.
     ensures refused { RefusesRightly result bytes.now }
 {
     let Some(items) = strip_front(bytes, b"XVB1\n") else {

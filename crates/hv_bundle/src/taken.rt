@@ -1,16 +1,14 @@
 //! The paths that earlier files have taken.
-ghost use Rattle.std.specs.Prelude.{◌≡◌, ◌↔◌, ℕ, List, IsTrue};
-ghost use Rattle.hv_text.specs.Path.{IsPathPrefix};
-ghost use Rattle.hv_bundle.specs.Bundle.{AreApart};
-ghost use Rattle.hv_bundle.specs.Taken.{IsTaken, AreAllApart};
+ghost use Rattle.std.specs.Prelude.{◌↔◌, IsTrue};
+ghost use Rattle.hv_bundle.specs.Taken.{AreAllApart, LiesInTaken, HasTakenInside, IsApartFromTaken};
 
 use hv_text::Path;
 use std::collections::BTreeSet;
 
-/// Whether this path is taken or lies in a taken one.
+/// Whether this path is taken or lies in a taken one, which is then the last that isn't above it.
 fn lies_in_a_file(taken: &BTreeSet<Path>, path: &Path) -> bool
     requires { AreAllApart taken.now }
-    ensures { IsTrue result ↔ ((one : List (List ℕ)) × IsTaken taken.now one × IsPathPrefix one path.now) }
+    ensures { IsTrue result ↔ LiesInTaken taken.now path.now }
 {
     match taken.range(..=path).next_back() {
         Some(one) => one.is_prefix_of(path),
@@ -18,9 +16,9 @@ fn lies_in_a_file(taken: &BTreeSet<Path>, path: &Path) -> bool
     }
 }
 
-/// Whether this path is taken or a taken one lies in it.
+/// Whether this path is taken or has a taken one inside, as then the first that isn't below it is.
 fn is_a_folder(taken: &BTreeSet<Path>, path: &Path) -> bool
-    ensures { IsTrue result ↔ ((one : List (List ℕ)) × IsTaken taken.now one × IsPathPrefix path.now one) }
+    ensures { IsTrue result ↔ HasTakenInside taken.now path.now }
 {
     match taken.range(path..).next() {
         Some(one) => path.is_prefix_of(one),
@@ -28,10 +26,10 @@ fn is_a_folder(taken: &BTreeSet<Path>, path: &Path) -> bool
     }
 }
 
-/// Whether this path is apart from all taken ones. Its two neighbours in the order of names decide.
+/// Whether this path is apart from all taken ones.
 pub fn is_free(taken: &BTreeSet<Path>, path: &Path) -> bool
     requires { AreAllApart taken.now }
-    ensures { IsTrue result ↔ ((one : List (List ℕ)) → IsTaken taken.now one → AreApart one path.now) }
+    ensures { IsTrue result ↔ IsApartFromTaken taken.now path.now }
 {
     if lies_in_a_file(taken, path) {
         return false;
