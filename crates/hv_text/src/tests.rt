@@ -55,6 +55,12 @@ fn paths_both_ways(rt: HostRuntime) -> Result<(), Fail> {
         assert_eq!(rt; path.at(path.len()), None);
         assert!(rt; path.clone()? == path);
         assert!(rt; path.is_prefix_of(&path));
+        let mut parent = path.clone()?;
+        if let Some(name) = parent.pop() {
+            assert!(rt; parent != path);
+            parent.push(name)?;
+        }
+        assert!(rt; parent == path);
     }
     Ok(())
 }
