@@ -67,6 +67,7 @@ fn paths_both_ways(rt: HostRuntime) -> Result<(), Fail> {
 
 #[test]
 fn strings_in_their_order(rt: HostRuntime) -> Result<(), Fail> {
+    assert_eq!(rt; Strings::from_vec(Vec::new(rt.alloc())).len(), 0);
     let mut strings = Strings::new(rt.alloc())?;
     strings.push(Bytes::from_vec(b"one".to_vec(rt.alloc())?))?;
     assert_eq!(rt; strings.len(), 1);
