@@ -50,7 +50,8 @@ pub record BeginsWithItems (text : List ℕ) (files : List File) (rest : List �
 abbrev pub IsBundle : List ℕ → List File → Type 0
 IsBundle text files = BeginsWithItems text files ending
 
--- the longest beginning that is the first line and items that fit ends at the offset, and what follows isn't the last line
+-- the longest beginning that is the first line and items that fit ends at the offset,
+-- and what follows isn't the last line
 pub record StopsAt (text : List ℕ) (offset : ℕ) : Type 0 where
   pub files : List File
   pub rest : List ℕ
@@ -63,7 +64,8 @@ pub record StopsAt (text : List ℕ) (offset : ℕ) : Type 0 where
 abbrev pub LacksMagic : List ℕ → Type 0
 LacksMagic text = (rest : List ℕ) → text ≢ magic ++ rest
 
--- no files make the text a bundle, and the offset is 0 without the first line, else where the items that fit stop
+-- no files make the text a bundle, and the offset is 0 where the first line is missing,
+-- else that at which the items that fit stop
 pub record IsBadAt (text : List ℕ) (offset : ℕ) : Type 0 where
   pub no_bundle : (files : List File) → IsBundle text files → ⊥
   pub stop : (LacksMagic text × (offset ≡ 0)) ⊎ StopsAt text offset

@@ -7,9 +7,13 @@ mod laws;
 mod print;
 mod read;
 mod refusal;
+mod taken;
 
 pub use file::File;
 pub use laws::bundles_are_unambiguous;
 pub use print::print_bundle;
 pub use read::read_bundle;
 pub use refusal::BundleRefusal;
+
+#[cfg(test)]
+mod tests;

@@ -1,6 +1,6 @@
 //! A bundle printed.
 ghost use Rattle.std.specs.Prelude.{◌≡◌, [], ◌++◌, IfOk, OnOk};
-ghost use Rattle.hv_bundle.specs.Bundle.{IsFile, item_text, items_text, AreFitting, IsBundle};
+ghost use Rattle.hv_bundle.specs.Bundle.{item_text, items_text, AreFitting, IsBundle};
 
 use crate::file::File;
 use hv_text::{Bytes, push_decimal};

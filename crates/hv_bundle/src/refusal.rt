@@ -10,6 +10,7 @@ pub enum BundleRefusal {
     /// The offset at which the bytes stop being a bundle.
     #[error("bad bundle at {0}")]
     BadBundle(u64),
+    /// Memory ran out.
     #[error("out of memory")]
     Memory(AllocError),
 }

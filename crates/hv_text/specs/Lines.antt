@@ -3,7 +3,8 @@ use Rattle.std.specs.Prelude.{◌≡◌, ℕ, ◌<◌, ◌≤◌, ◌==◌, List
 use Rattle.std.specs.List.{after_first}
 use Rattle.std.specs.Str.Lines.{lines}
 
--- the pieces between line feeds, without the one carriage return directly before a line feed; a last piece without a line feed is a line too, unless it is empty, and keeps its carriage return
+-- the pieces that end at line feeds, each without one carriage return directly before its line feed,
+-- and as it is the last piece, which no line feed ends, unless it is empty
 abbrev pub script_lines : List ℕ → List (List ℕ)
 script_lines text = lines text
 

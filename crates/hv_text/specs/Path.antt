@@ -7,11 +7,11 @@ use Rattle.hv_text.specs.declared.path.PathRefusal.{PathRefusal}
 use Rattle.hv_text.specs.declared.path.PathRefusal.TheVariants as refusal
 use Rattle.hv_text.specs.declared.path.Path.{Path}
 
--- a letter, a digit, a dot, a low line or a hyphen
+-- a letter, a digit, a dot, an underscore or a hyphen
 abbrev pub IsNameByte : ℕ → Type 0
 IsNameByte b = IsAsciiAlphanumeric b ⊎ ((b ≡ 46) ⊎ ((b ≡ 95) ⊎ (b ≡ 45)))
 
--- 1 to 31 such bytes, but neither one dot nor two
+-- 1 to 31 such bytes that are neither `.` nor `..`
 pub record IsName (name : List ℕ) : Type 0 where
   pub some : 0 < length name
   pub short : length name < 32
@@ -19,6 +19,7 @@ pub record IsName (name : List ℕ) : Type 0 where
   pub not_here : name ≢ 46 ∷ []
   pub not_above : name ≢ 46 ∷ 46 ∷ []
 
+-- each name of the path is one
 abbrev pub ArePathNames : List (List ℕ) → Type 0
 ArePathNames names = AllByRecursion IsName names
 
@@ -30,7 +31,7 @@ IsPathPrefix one other = (rest : List (List ℕ)) × (other ≡ one ++ rest)
 abbrev pub slashed : List (List ℕ) → List ℕ
 slashed names = flat_map (λ name. 47 ∷ name) names
 
--- a slash alone for the root
+-- the text of a path, which is a slash alone for the root
 abbrev pub path_text : List (List ℕ) → List ℕ
 path_text [] = 47 ∷ []
 path_text (name ∷ names) = slashed (name ∷ names)

@@ -30,7 +30,9 @@ impl Model for Path {
 /// Why a text gave no path.
 #[derive(Debug, Drop)]
 pub enum PathRefusal {
+    /// No path has this text.
     NotAPath,
+    /// Memory ran out.
     Memory(AllocError),
 }
 
@@ -86,8 +88,10 @@ fn push_name(alloc: Global, names: &mut Vec<Bytes>, name: &[u8]) -> Result<(), A
 }
 
 fn read_names(alloc: Global, text: &[u8]) -> Result<Vec<Bytes>, PathRefusal>
-    ensures found { IfOk result (λ names. ArePathNames names.items × (text.now ≡ slashed names.items)) }
-    ensures only { (names : List (List ℕ)) → ArePathNames names → text.now ≡ slashed names → ReadsNames result names }
+    ensures found { IfOk result (λ names.
+        ArePathNames names.items × (text.now ≡ slashed names.items)) }
+    ensures only { (names : List (List ℕ))
+        → ArePathNames names → text.now ≡ slashed names → ReadsNames result names }
 {
     let mut names = Vec::new(alloc);
     let mut rest = text;
@@ -116,10 +120,14 @@ fn push_names(to: &mut Bytes, names: &[Bytes]) -> Result<(), AllocError>
 }
 
 impl Path {
-    /// `/`, or one or more names, each after a `/`.
+    /// Reads `/`, or one or more names, each after a `/`.
     pub fn read(alloc: Global, text: &[u8]) -> Result<Path, PathRefusal>
+        // The text is that of what was read.
         ensures found { IfOk result (λ path. ArePathNames path × (text.now ≡ path_text path)) }
-        ensures only { (names : List (List ℕ)) → ArePathNames names → text.now ≡ path_text names → Reads result names }
+
+        // The text of a path is read as this path, unless memory runs out.
+        ensures only { (names : List (List ℕ))
+            → ArePathNames names → text.now ≡ path_text names → Reads result names }
     {
         if text == b"/".as_slice() {
             let names = Vec::new(alloc);
@@ -146,7 +154,7 @@ impl Path {
         self.names.is_empty()
     }
 
-    /// The name at a place.
+    /// The name at an index, or nothing past the last.
     pub fn at(&self, place: usize) -> Option<&[u8]>
         ensures { option_copied result ≡ slice_get self.now place }
     {
@@ -173,7 +181,7 @@ impl Path {
         self.names.pop()
     }
 
-    /// Whether this path is a front of the other, or equal to it.
+    /// Whether the other path begins with all the names of this one.
     pub fn is_prefix_of(&self, other: &Path) -> bool
         ensures { IsTrue result ↔ IsPathPrefix self.now other.now }
     {
@@ -222,7 +230,10 @@ impl Eq for Path {
 impl PartialOrd for Path {
     ghost partial_cmp = { λ one other. Some (slice_cmp (slice_cmp nat_cmp) one other) };
 
-    ghost laws = { partial_order_from_agreeing_total (slice_cmp (slice_cmp nat_cmp)) (lists_total nat_list_cmp_total) (λ one other. refl) (lists_ties (slice_cmp nat_cmp) texts_ties) };
+    ghost laws = { partial_order_from_agreeing_total (slice_cmp (slice_cmp nat_cmp))
+        (lists_total nat_list_cmp_total)
+        (λ one other. refl)
+        (lists_ties (slice_cmp nat_cmp) texts_ties) };
 
     fn partial_cmp(&self, other: &Path) -> Option<Ordering> {
         Some(self.cmp(other))

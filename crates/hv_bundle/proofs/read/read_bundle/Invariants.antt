@@ -1,9 +1,13 @@
 use Rattle.std.proofs.Common.{length}
 use Rattle.hv_bundle.specs.Bundle.{BeginsWithItems}
+use Rattle.hv_bundle.proofs.TakenLemmas.{HasPathsOf}
 use Rattle.hv_bundle.proofs.read.read_bundle.Given as goal
 
 abbrev pub invariant-loop-rest : goal.invariant-loop-rest
-invariant-loop-rest l = BeginsWithItems l.bytes l.files.items l.rest
+invariant-loop-rest l = record {
+  begins : BeginsWithItems l.bytes l.files.items l.rest;
+  paths : HasPathsOf l.taken l.files.items;
+}
 
 abbrev pub decreases-loop-rest : goal.decreases-loop-rest
 decreases-loop-rest l = length l.rest
