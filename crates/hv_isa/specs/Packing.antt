@@ -26,6 +26,7 @@ pub record IsFieldWord (word opcode funct3 dest source field : ℕ) : Type 0 whe
   pub head : HasHead word opcode funct3 dest source
   pub field_is : bits word 20 12 ≡ field
 
+-- two registers and an immediate
 pub record IsIWord (word opcode funct3 dest source : ℕ) (imm : ℤ) : Type 0 where
   pub head : HasHead word opcode funct3 dest source
   pub immediate_is : i_immediate word ≡ imm
@@ -37,19 +38,23 @@ pub record HasSources (word opcode funct3 one other : ℕ) : Type 0 where
   pub rs1_is : rs1 word ≡ one
   pub rs2_is : rs2 word ≡ other
 
+-- the same with the immediate of a store
 pub record IsSWord (word opcode funct3 one other : ℕ) (imm : ℤ) : Type 0 where
   pub sources : HasSources word opcode funct3 one other
   pub immediate_is : s_immediate word ≡ imm
 
+-- the same with the offset of a branch
 pub record IsBWord (word opcode funct3 one other : ℕ) (offset : ℤ) : Type 0 where
   pub sources : HasSources word opcode funct3 one other
   pub offset_is : b_immediate word ≡ offset
 
+-- opcode, rd and the upper twenty bits
 pub record IsUWord (word opcode dest imm : ℕ) : Type 0 where
   pub opcode_is : word % 2 ^ 7 ≡ opcode
   pub rd_is : rd word ≡ dest
   pub immediate_is : bits word 12 20 ≡ imm
 
+-- opcode, rd and the offset of a jump
 pub record IsJWord (word opcode dest : ℕ) (offset : ℤ) : Type 0 where
   pub opcode_is : word % 2 ^ 7 ≡ opcode
   pub rd_is : rd word ≡ dest

@@ -2,7 +2,7 @@
 use Rattle.std.specs.Prelude.{ℕ, ◌/◌, ◌%◌, ◌^◌, Bool, true, ◌&&◌, ◌==◌, if◌then◌else◌, List, [], ◌∷◌, Option, Some, None}
 use Rattle.hv_exec.specs.declared.inst.Inst.{Inst}
 use Rattle.hv_exec.specs.declared.inst.Inst.TheVariants.{Lui, Auipc, Jal, Jalr, Beq, Bne, Blt, Bge, Bltu, Bgeu, Lb, Lh, Lw, Ld, Lbu, Lhu, Lwu, Sb, Sh, Sw, Sd, Addi, Slti, Sltiu, Xori, Ori, Andi, Addiw, Slli, Srli, Srai, Slliw, Srliw, Sraiw, Add, Sll, Slt, Sltu, Xor, Srl, Or, And, Sub, Sra, Mul, Mulh, Mulhsu, Mulhu, Div, Divu, Rem, Remu, Addw, Sllw, Srlw, Subw, Sraw, Mulw, Divw, Divuw, Remw, Remuw, Fence, FenceI, Ecall, Ebreak, Mret, Wfi, Csrrw, Csrrs, Csrrc, Csrrwi, Csrrsi, Csrrci}
-use Rattle.hv_isa.specs.Formats.{bits, r_type, i_type, s_type, b_type, u_type, j_type, long_shift_type, short_shift_type, field_type, immediate_field_type}
+use Rattle.hv_isa.specs.Formats.{bits, r_type, i_type, s_type, b_type, u_type, j_type, long_shift_type, short_shift_type, field_type}
 
 -- bits that a row fixes
 pub record Fixed : Type 0 where
@@ -20,9 +20,11 @@ pub record Group : Type 0 where
   pub opcode : ℕ
   pub rows : List Row
 
+-- bits 14 to 12
 abbrev pub funct3 : ℕ → Fixed
 funct3 value = record { low = 12; width = 3; value = value }
 
+-- bits 31 to 25
 abbrev pub funct7 : ℕ → Fixed
 funct7 value = record { low = 25; width = 7; value = value }
 
@@ -34,6 +36,7 @@ funct6 value = record { low = 26; width = 6; value = value }
 abbrev pub whole : ℕ → Fixed
 whole word = record { low = 7; width = 25; value = word / 2 ^ 7 }
 
+-- a row of the table
 abbrev pub row : List Fixed → (ℕ → Inst) → Row
 row fixed read = record { fixed = fixed; read = read }
 
@@ -167,9 +170,9 @@ system_rows =
     row (funct3 1 ∷ []) (field_type Csrrw) ∷
     row (funct3 2 ∷ []) (field_type Csrrs) ∷
     row (funct3 3 ∷ []) (field_type Csrrc) ∷
-    row (funct3 5 ∷ []) (immediate_field_type Csrrwi) ∷
-    row (funct3 6 ∷ []) (immediate_field_type Csrrsi) ∷
-    row (funct3 7 ∷ []) (immediate_field_type Csrrci) ∷
+    row (funct3 5 ∷ []) (field_type Csrrwi) ∷
+    row (funct3 6 ∷ []) (field_type Csrrsi) ∷
+    row (funct3 7 ∷ []) (field_type Csrrci) ∷
     row (whole 0x00000073 ∷ []) (λ word. Ecall) ∷
     row (whole 0x00100073 ∷ []) (λ word. Ebreak) ∷
     row (whole 0x30200073 ∷ []) (λ word. Mret) ∷

@@ -75,11 +75,11 @@ IsOver old new System = ⊥
 unfoldable pub trapped : Ctx → ℕ → ℕ → Ctx
 trapped ctx cause value =
     record ctx {
-        mepc = ctx.pc;
-        mcause = cause;
-        mtval = value;
-        mstatus = status false (is_enabled ctx);
-        pc = ctx.mtvec
+      mepc = ctx.pc;
+      mcause = cause;
+      mtval = value;
+      mstatus = status false (is_enabled ctx);
+      pc = ctx.mtvec;
     }
 
 -- the cause of an interrupt of a number

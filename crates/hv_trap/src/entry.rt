@@ -3,9 +3,8 @@
 ghost use Rattle.std.specs.Prelude.{◌≡◌, ℕ, ◌+◌, ◌^◌};
 ghost use Rattle.hv_trap.specs.Trap.{trapped, chosen, returned};
 
-use hv_exec::Ctx;
-
 use crate::csr::{is_set, status};
+use hv_exec::Ctx;
 
 const INTERRUPT: u64 = 1 << 63;
 

@@ -7,10 +7,9 @@ ghost use Rattle.hv_trap.specs.Csr as csrs;
 ghost use Rattle.hv_trap.specs.Csr.{csr_of};
 ghost use Rattle.hv_trap.specs.Trap.{accessed, changed, csr_word, IsOver, system_meaning, unless_zero, writes};
 
-use hv_exec::{After, Ctx, Inst};
-
 use crate::csr::{Change, Csr, csr_of, is_read_only, read, write};
 use crate::entry::return_from_trap;
+use hv_exec::{After, Ctx, Inst};
 
 /// Carries out a CSR instruction or MRET. An illegal one traps with its word.
 #[tactic(auto, unfolding(crate::specs::Trap::system_meaning, hv_exec::specs::Fields::IsWellFormed, hv_exec::specs::Operation::operation_of))]
@@ -24,24 +23,66 @@ pub fn system(ctx: &mut Ctx, inst: Inst) -> After
     match inst {
         Inst::Csrrw { rd, rs1, csr } => {
             let operand = ctx.register(rs1);
-            access(ctx, rd, csr, Change::Replace, operand, csr_word(1, rd, rs1, csr))
+            access(
+                ctx,
+                rd,
+                csr,
+                Change::Replace,
+                operand,
+                csr_word(1, rd, rs1, csr),
+            )
         }
         Inst::Csrrs { rd, rs1, csr } => {
             let operand = ctx.register(rs1);
-            access(ctx, rd, csr, unless_zero(rs1, Change::Set), operand, csr_word(2, rd, rs1, csr))
+            access(
+                ctx,
+                rd,
+                csr,
+                unless_zero(rs1, Change::Set),
+                operand,
+                csr_word(2, rd, rs1, csr),
+            )
         }
         Inst::Csrrc { rd, rs1, csr } => {
             let operand = ctx.register(rs1);
-            access(ctx, rd, csr, unless_zero(rs1, Change::Clear), operand, csr_word(3, rd, rs1, csr))
+            access(
+                ctx,
+                rd,
+                csr,
+                unless_zero(rs1, Change::Clear),
+                operand,
+                csr_word(3, rd, rs1, csr),
+            )
         }
         Inst::Csrrwi { rd, imm, csr } => {
-            access(ctx, rd, csr, Change::Replace, u64::from(imm), csr_word(5, rd, imm, csr))
+            access(
+                ctx,
+                rd,
+                csr,
+                Change::Replace,
+                u64::from(imm),
+                csr_word(5, rd, imm, csr),
+            )
         }
         Inst::Csrrsi { rd, imm, csr } => {
-            access(ctx, rd, csr, unless_zero(imm, Change::Set), u64::from(imm), csr_word(6, rd, imm, csr))
+            access(
+                ctx,
+                rd,
+                csr,
+                unless_zero(imm, Change::Set),
+                u64::from(imm),
+                csr_word(6, rd, imm, csr),
+            )
         }
         Inst::Csrrci { rd, imm, csr } => {
-            access(ctx, rd, csr, unless_zero(imm, Change::Clear), u64::from(imm), csr_word(7, rd, imm, csr))
+            access(
+                ctx,
+                rd,
+                csr,
+                unless_zero(imm, Change::Clear),
+                u64::from(imm),
+                csr_word(7, rd, imm, csr),
+            )
         }
         Inst::Mret => {
             return_from_trap(ctx);
@@ -57,10 +98,16 @@ fn access(ctx: &mut Ctx, rd: u8, number: u16, change: Change, operand: u64, word
     ensures answer { result ≡ (accessed ctx.old rd (csr_of number) change operand word).answer }
 {
     let Some(csr) = csr_of(number) else {
-        return After::Trap { cause: 2, value: word };
+        return After::Trap {
+            cause: 2,
+            value: word,
+        };
     };
     if writes(change) && is_read_only(csr) {
-        return After::Trap { cause: 2, value: word };
+        return After::Trap {
+            cause: 2,
+            value: word,
+        };
     }
     let before = read(ctx, csr);
     apply(ctx, csr, change, before, operand);
