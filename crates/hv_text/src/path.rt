@@ -1,12 +1,16 @@
 //! Paths: lists of names.
-ghost use Rattle.std.specs.Prelude.{◌≡◌, ◌≢◌, ◌≤◌, ◌<◌, [], ◌∷◌, ◌++◌, ◌↔◌, List, ℕ, length, IsTrue, IfOk, OnOk, IfSome, IfNone, All, slice_get};
-ghost use Rattle.std.specs.Option.{option_copied};
+ghost use Rattle.std.specs.Prelude.{◌≡◌, ◌==◌, ◌++◌, ◌↔◌, ◌<◌, [], ◌∷◌, List, ℕ, length, refl, Some, IsSome, IsTrue, IfOk, OnOk, OnErr, All, slice_get};
+ghost use Rattle.std.specs.Option.{option_copied, option_to_list};
+ghost use Rattle.std.specs.Ordering.{nat_cmp};
+ghost use Rattle.std.specs.Cmp.Lexicographic.{pointwise, slice_cmp, nat_list_eq_equiv, nat_list_cmp_total, lists_equiv, lists_total, lists_ties, texts_ties};
+ghost use Rattle.std.specs.Cmp.{partial_equiv_from_equiv, partial_order_from_agreeing_total};
 ghost use Rattle.hv_text.specs.Path.{IsNameByte, IsName, IsPathPrefix, ArePathNames, slashed, path_text, ReadsNames, Reads};
 
 use crate::bytes::Bytes;
 use crate::front::front_len;
 use crate::strip::strip_front;
 use std::alloc::{AllocError, Global};
+use std::cmp::Ordering;
 use std::marker::Model;
 
 /// A list of names. The root is the empty list.
@@ -152,6 +156,23 @@ impl Path {
         }
     }
 
+    /// Adds a name at the end. At `Err` nothing has changed.
+    pub fn push(&mut self, name: Bytes) -> Result<(), AllocError>
+        ensures ok { OnOk result (self.new ≡ self.old ++ name ∷ []) }
+        ensures err { OnErr result (self.new ≡ self.old) }
+    {
+        self.names.push(name)?;
+        Ok(())
+    }
+
+    /// Takes the last name away.
+    pub fn pop(&mut self) -> Option<Bytes>
+        ensures names { self.old ≡ self.new ++ option_to_list result }
+        ensures some { IsSome result ↔ (0 < length self.old) }
+    {
+        self.names.pop()
+    }
+
     /// Whether this path is a front of the other, or equal to it.
     pub fn is_prefix_of(&self, other: &Path) -> bool
         ensures { IsTrue result ↔ IsPathPrefix self.now other.now }
@@ -170,5 +191,55 @@ impl Path {
         }
         push_names(&mut text, &self.names)?;
         Ok(text)
+    }
+}
+
+impl Clone for Path {
+    // A clone has the same names.
+    ghost is_clone = { λ path copy. copy ≡ path };
+
+    fn clone(&self) -> Result<Path, AllocError> {
+        Ok(Path {
+            names: self.names.clone()?,
+        })
+    }
+}
+
+impl PartialEq for Path {
+    ghost eq = { pointwise (pointwise ◌==◌) };
+
+    ghost laws = { partial_equiv_from_equiv (lists_equiv nat_list_eq_equiv) };
+
+    fn eq(&self, other: &Path) -> bool {
+        self.names == other.names
+    }
+}
+
+impl Eq for Path {
+    ghost laws = { lists_equiv nat_list_eq_equiv };
+}
+
+impl PartialOrd for Path {
+    ghost partial_cmp = { λ one other. Some (slice_cmp (slice_cmp nat_cmp) one other) };
+
+    ghost laws = { partial_order_from_agreeing_total (slice_cmp (slice_cmp nat_cmp)) (lists_total nat_list_cmp_total) (λ one other. refl) (lists_ties (slice_cmp nat_cmp) texts_ties) };
+
+    fn partial_cmp(&self, other: &Path) -> Option<Ordering> {
+        Some(self.cmp(other))
+    }
+}
+
+/// The order of names, one after the other: a folder is just before what lies in it.
+impl Ord for Path {
+    ghost cmp = { slice_cmp (slice_cmp nat_cmp) };
+
+    ghost total = { lists_total nat_list_cmp_total };
+
+    ghost matches_partial_cmp = { λ one other. refl };
+
+    ghost matches_eq = { lists_ties (slice_cmp nat_cmp) texts_ties };
+
+    fn cmp(&self, other: &Path) -> Ordering {
+        self.names.cmp(&other.names)
     }
 }

@@ -1,0 +1,8 @@
+use Rattle.hv_bundle.proofs.Fitting.{one_reading, prefix_free}
+use Rattle.hv_bundle.proofs.laws.bundles_are_unambiguous.Goals as goal
+
+pub returns-clause-one_reading : goal.returns-clause-one_reading
+returns-clause-one_reading c = one_reading
+
+pub returns-clause-prefix_free : goal.returns-clause-prefix_free
+returns-clause-prefix_free c = prefix_free

@@ -1,0 +1,18 @@
+//! Events of a run: who made which step, when, and with what reply; and the line of each.
+//!
+//! Terms: an actor is a hart or a terminal; the index counts an actor's events from 1; the stamp is
+//! the event's logical time; a reply is what came of the step.
+#![tactic(auto)]
+
+mod event;
+mod print;
+mod reply;
+mod step;
+
+pub use event::{ActorId, CellId, Event};
+pub use print::{print_event, print_refusal};
+pub use reply::{Refusal, Reply};
+pub use step::{Bad, Cat, Ls, Mkdir, Rest, Rm, Run, Step, Write};
+
+#[cfg(test)]
+mod tests;

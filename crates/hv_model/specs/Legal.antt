@@ -1,0 +1,116 @@
+-- Legal and complete histories.
+use Rattle.std.specs.Prelude.{◌≡◌, ℕ, ◌+◌, ◌≤◌, ◌^◌, length, List, [], ◌++◌, map, ◌==◌, if◌then◌else◌, ◌∷◌}
+use Rattle.std.specs.List.{AllByRecursion, range_with_len}
+use Rattle.hv_machine.specs.Machine.{State, state_after}
+use Rattle.hv_machine.specs.Merging.{IsRising}
+use Rattle.hv_machine.specs.Phases.{together, IsTwoPart}
+use Rattle.hv_event.specs.declared.event.CellId.TheVariants as component
+use Rattle.hv_event.specs.declared.event.ActorId.TheVariants.{Hart, Terminal}
+use Rattle.hv_event.specs.declared.event.Event.{Event}
+use Rattle.hv_model.specs.Origin.{Origin, boot_script, own_script, terminals}
+use Rattle.hv_model.specs.Cell.{Cell, Component, Actor, is_actor, rank_of}
+use Rattle.hv_model.specs.Entry.{Entry}
+use Rattle.hv_text.specs.Lines.{script_lines}
+use Rattle.hv_words.specs.Words.{commands_of}
+use Rattle.hv_model.specs.Files.{FileMap, load_files}
+use Rattle.hv_model.specs.Terminal.{TerminalState, Scripts, IsAtBootEnd, IsAtEnd}
+use Rattle.hv_model.specs.Rules.{Value, machine}
+
+-- Terminal 0 begins with the boot script, the others with none.
+abbrev pub boot_at_start : Origin → ℕ → Scripts
+boot_at_start O t = if t == 0 then commands_of (boot_script O) ∷ [] else []
+
+-- A terminal begins with its own script open behind the boot script.
+abbrev pub own_at_start : Origin → ℕ → Scripts
+own_at_start O t = commands_of (own_script O t) ∷ []
+
+-- The lines of a terminal's scripts at the start, blank lines and comments included.
+abbrev pub lines_at_start : Origin → ℕ → ℕ
+lines_at_start O t = (if t == 0 then length (script_lines (boot_script O)) else 0) + length (script_lines (own_script O t))
+
+-- A terminal at the start has made nothing, and has its commands before it.
+abbrev pub terminal_at_start : Origin → ℕ → TerminalState
+terminal_at_start O t =
+    record { count = 0; rests = 0; boot = boot_at_start O t; own = own_at_start O t; lines = lines_at_start O t }
+
+-- At the start the files are the bundle's, and no actor has made anything.
+abbrev pub value_at_start : Origin → (x : Cell) → Value x
+value_at_start O (Component component.Files) = load_files O.opening.files
+value_at_start O (Actor (Hart h)) = record { count = 0; turns = 0 }
+value_at_start O (Actor (Terminal t)) = terminal_at_start O t
+
+-- At the start every stamp is 0.
+abbrev pub start : (O : Origin) → State (machine O)
+start O x = record { value = value_at_start O x; stamp = 0 }
+
+-- Terminal 0 makes the boot part.
+abbrev pub first : Cell
+first = Actor (Terminal 0)
+
+-- The greatest stamp that an event may have.
+abbrev pub greatest_stamp : ℕ
+greatest_stamp = 2 ^ 62
+
+module _ (O : Origin) where
+  -- The state that the boot part leaves.
+  abbrev pub booted : List Entry → State (machine O)
+  booted boot = state_after (machine O) (start O) boot
+
+  -- The state in which all actors begin: each has the stamp that Terminal 0 has at the end of the boot script.
+  abbrev pub begun : List Entry → State (machine O)
+  begun boot = together (machine O) is_actor first (booted boot)
+
+  -- The state that the whole leaves.
+  abbrev pub reached : List Entry → List Entry → State (machine O)
+  reached boot later = state_after (machine O) (begun boot) later
+
+  -- A history is a run of a boot part and a later part where all of these hold.
+  pub record IsRunOf (H : List Event) (boot later : List Entry) : Type 0 where
+    -- the history is the events of both parts
+    pub events : map (λ e. e.event) (boot ++ later) ≡ H
+    -- it rises by stamp, and at one stamp by actor
+    pub rising : IsRising (machine O) rank_of (boot ++ later)
+    -- no stamp passes the greatest
+    pub in_range : AllByRecursion (λ e. e.event.stamp ≤ greatest_stamp) (boot ++ later)
+    -- Terminal 0 made the boot part alone, and each part is a run
+    pub parts : IsTwoPart (machine O) is_actor first (start O) boot later
+    -- the boot part has none of Terminal 0's own commands
+    pub within : (booted boot first).value.own ≡ own_at_start O 0
+
+  -- The parts lead to a state: that of the whole once the boot script has ended, and before that nothing is later.
+  pub record LeadTo (boot later : List Entry) (s : State (machine O)) : Type 0 where
+    pub ended : IsAtBootEnd (booted boot first).value → s ≡ reached boot later
+    pub unended : (IsAtBootEnd (booted boot first).value → ⊥) → (later ≡ []) × (s ≡ booted boot)
+
+  -- A history leads from the opening to a state where it is a run whose parts lead there.
+  pub record Leads (H : List Event) (s : State (machine O)) : Type 0 where
+    pub boot : List Entry
+    pub later : List Entry
+    pub runs : IsRunOf H boot later
+    pub state : LeadTo boot later s
+
+  -- A history is legal where it leads to some state.
+  abbrev pub Legal : List Event → Type 0
+  Legal H = (s : State (machine O)) × Leads H s
+
+  -- In a complete state every terminal is at its end, and every hart has made its turns.
+  pub record IsComplete (s : State (machine O)) : Type 0 where
+    pub terminals : AllByRecursion (λ t. IsAtEnd (s (Actor (Terminal t))).value) terminals
+    pub harts : AllByRecursion (λ h. (s (Actor (Hart h))).value.turns ≡ O.opening.turns) (range_with_len 0 O.opening.harts)
+
+  -- A history is complete where it leads to a state in which nothing is left to do.
+  abbrev pub Complete : List Event → Type 0
+  Complete H = (s : State (machine O)) × Leads H s × IsComplete s
+
+  -- A run that was stopped: its history leads to a state that has these files.
+  pub record IsStoppedRun (H : List Event) (files : FileMap) : Type 0 where
+    pub state : State (machine O)
+    pub legal : Leads H state
+    pub final : (state (Component component.Files)).value ≡ files
+
+  -- A run that was finished: its history leads to a state that has these files, and in which nothing is left to do.
+  pub record IsFinishedRun (H : List Event) (files : FileMap) : Type 0 where
+    pub state : State (machine O)
+    pub legal : Leads H state
+    pub complete : IsComplete state
+    pub final : (state (Component component.Files)).value ≡ files

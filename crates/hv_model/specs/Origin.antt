@@ -1,0 +1,24 @@
+-- What a run begins with, and what the definitions read off it.
+use Rattle.std.specs.Prelude.{ℕ, ◌+◌, nat_lt, if◌then◌else◌, List, [], ◌∷◌, slice_get, unwrap_or}
+use Rattle.hv_model.specs.declared.opening.Opening.{Opening}
+
+-- An origin is all that a run begins with.
+pub record Origin : Type 0 where
+  pub opening : Opening
+
+-- The origin of an opening has nothing beside it.
+abbrev pub origin_of : Opening → Origin
+origin_of o = record { opening = o }
+
+-- The boot script is the first of the scripts; one that isn't there is empty.
+abbrev pub boot_script : Origin → List ℕ
+boot_script O = unwrap_or (slice_get O.opening.scripts 0) []
+
+-- The own script of a terminal has its number among the scripts behind the first, and there are four terminals; one
+-- that isn't there is empty.
+abbrev pub own_script : Origin → ℕ → List ℕ
+own_script O t = if nat_lt t 4 then unwrap_or (slice_get O.opening.scripts (t + 1)) [] else []
+
+-- There are four terminals.
+abbrev pub terminals : List ℕ
+terminals = 0 ∷ 1 ∷ 2 ∷ 3 ∷ []

@@ -1,0 +1,4 @@
+pub mod Stack
+pub mod Cells
+pub mod Answer
+pub mod Step

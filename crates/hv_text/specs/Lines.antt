@@ -1,0 +1,22 @@
+-- The lines of a script.
+use Rattle.std.specs.Prelude.{◌≡◌, ℕ, ◌<◌, ◌≤◌, ◌==◌, List, ◌∷◌, length, drop, slice_range}
+use Rattle.std.specs.List.{after_first}
+use Rattle.std.specs.Str.Lines.{lines}
+
+-- the pieces between line feeds, without the one carriage return directly before a line feed; a last piece without a line feed is a line too, unless it is empty, and keeps its carriage return
+abbrev pub script_lines : List ℕ → List (List ℕ)
+script_lines text = lines text
+
+-- what follows the first line feed, or nothing where there is none
+abbrev pub after_line_feed : List ℕ → List ℕ
+after_line_feed text = after_first (λ b. b == 10) text
+
+-- a line's start, its end, and the start of the next line
+pub record IsLineAt (text : List ℕ) (from start end next : ℕ) : Type 0 where
+  pub starts : start ≡ from
+  pub ordered : start ≤ end
+  pub ends : end ≤ next
+  pub advances : start < next
+  pub within : next ≤ length text
+  pub next_line : drop next text ≡ after_line_feed (drop from text)
+  pub lines : script_lines (drop from text) ≡ slice_range text start end ∷ script_lines (drop next text)

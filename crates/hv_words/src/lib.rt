@@ -1,0 +1,19 @@
+//! Commands of the terminals' scripts, read from lines and printed as lines.
+//!
+//! Terms: a word is a longest piece of a line without spaces; a row is one form of command, named by
+//! its first two words, its family and its name; a command line is a line of a script that is not
+//! skipped.
+#![tactic(auto)]
+
+mod command;
+mod refusal;
+mod script;
+mod word;
+
+pub use command::Command;
+pub use refusal::WordsRefusal;
+pub use script::{Script, count_lines};
+pub use word::is_skipped_line;
+
+#[cfg(test)]
+mod tests;
