@@ -3,9 +3,9 @@
 
 ghost use Rattle.std.specs.Prelude.{◌≡◌, ◌<◌, length, IfOk, OnOk, OnErr, Ok, map};
 ghost use Rattle.hv_model.specs.Entry.{nothing};
-ghost use Rattle.hv_model.specs.Files.{FilesAgree, files_after, answered, done, changed, refusal_of};
+ghost use Rattle.hv_model.specs.Files.{FilesAgree, files_after, answered, done, changed};
 ghost use Rattle.hv_files.specs.FileMap.{read_file, list_folder, made_folder, with_file, without};
-ghost use Rattle.hv_fpart.specs.Part.{IsFilesStep};
+ghost use Rattle.hv_fpart.specs.Part.{IsFilesStep, IsShownAs};
 
 use hv_event::{Refusal, Reply, Step};
 use hv_files::{FileRefusal, FileTree};
@@ -14,7 +14,7 @@ use std::alloc::{AllocError, Global};
 
 /// A refusal of the files as a reply shows it, or want of memory.
 fn shown(refusal: FileRefusal) -> Result<Refusal, AllocError>
-    ensures { IfOk result (λ why. why ≡ refusal_of refusal) }
+    ensures { IfOk result (λ why. IsShownAs refusal why) }
 {
     match refusal {
         FileRefusal::NoEntry => Ok(Refusal::NoEntry),
@@ -76,16 +76,15 @@ fn removed(files: &mut FileTree, path: &Path) -> Result<Result<(), Refusal>, All
 fn written(
     files: &mut FileTree,
     path: &Path,
-    bytes: &Bytes,
+    bytes: Bytes,
 ) -> Result<Result<(), Refusal>, AllocError>
     requires { 0 < length path.now }
     ensures answer { IfOk result (λ answer.
-        answer ≡ done (with_file files.old path.now bytes.now)) }
+        answer ≡ done (with_file files.old path.now bytes)) }
     ensures after { OnOk result (
-        files.new ≡ changed files.old (with_file files.old path.now bytes.now)) }
+        files.new ≡ changed files.old (with_file files.old path.now bytes)) }
     ensures err { OnErr result (files.new ≡ files.old) }
 {
-    let bytes = bytes.clone()?;
     match files.put(path, bytes) {
         Ok(()) => Ok(Ok(())),
         Err(refusal) => Ok(Err(shown(refusal)?)),
@@ -109,7 +108,10 @@ pub fn files_part(
         Step::Cat(cat) => Ok(Reply::Cat(read_part(alloc, files, &cat.path)?)),
         Step::Mkdir(mkdir) => Ok(Reply::Mkdir(folder_made(files, &mkdir.path)?)),
         Step::Rm(rm) => Ok(Reply::Rm(removed(files, &rm.path)?)),
-        Step::Write(write) => Ok(Reply::Write(written(files, &write.path, &write.bytes)?)),
+        Step::Write(write) => {
+            let bytes = write.bytes.clone()?;
+            Ok(Reply::Write(written(files, &write.path, bytes)?))
+        }
         Step::Bad(_) | Step::Rest(_) | Step::Run(_) => unreachable!(),
     }
 }

@@ -13,8 +13,36 @@ use Rattle.hv_words.specs.Commands.{Gives, IsNoCommand, HasBadWord}
 use Rattle.hv_model.specs.Terminal.{TerminalAgrees, terminal_after, begun, step_of}
 use Rattle.hv_rounds.specs.declared.stop.Stop.{Stop}
 use Rattle.hv_rounds.specs.declared.stop.Stop.TheVariants as stop
+use Rattle.hv_rounds.specs.declared.files.FileCell.{FileCell}
 use Rattle.hv_rounds.specs.declared.terminal.Terminal.{Terminal}
 use Rattle.hv_rounds.specs.Cells.{value_of}
+
+-- the files agree to the step, change by it and take its stamp, which is one more than theirs and the terminal's
+pub record TouchesFiles (old new : FileCell) (own : ℕ) (e : Entry) : Type 0 where
+  pub agrees : FilesAgree old.tree e.event.step e.event.reply e.carry
+  pub after : new.tree ≡ files_after old.tree e.event.step e.carry
+  pub stamp : new.stamp ≡ e.event.stamp
+  pub next : e.event.stamp ≡ max own old.stamp + 1
+
+-- the files stay, and the step's stamp is one more than the terminal's
+pub record LeavesFiles (old new : FileCell) (own : ℕ) (e : Entry) : Type 0 where
+  pub same : new ≡ old
+  pub next : e.event.stamp ≡ own + 1
+
+-- what a step does to the files, by its kind
+abbrev pub FilesPart : Step → FileCell → FileCell → ℕ → Entry → Type 0
+FilesPart (step.Bad s) old new own e = LeavesFiles old new own e
+FilesPart (step.Rest s) old new own e = LeavesFiles old new own e
+FilesPart _ old new own e = TouchesFiles old new own e
+
+-- an entry is the terminal's next step, and the terminal and the files are as it leaves them
+pub record IsStep (files files' : FileCell) (t t' : Terminal) (e : Entry) : Type 0 where
+  pub actor : e.event.actor ≡ actor.Terminal t.number
+  pub number : t'.number ≡ t.number
+  pub agrees : TerminalAgrees (value_of t) e
+  pub after : value_of t' ≡ terminal_after (value_of t) e.event
+  pub stamp : t'.stamp ≡ e.event.stamp
+  pub files : FilesPart e.event.step files files' t.stamp e
 
 -- the entry of an event of this terminal
 abbrev pub Makes : ℕ → ℕ → ℕ → Step → Reply → Option ℕ → Entry → Type 0
@@ -49,4 +77,3 @@ pub record IsAsked (line : List ℕ) (s : Step) : Type 0 where
   pub asked : Command
   pub gives : Gives line asked
   pub step_is : s ≡ step_of asked
-

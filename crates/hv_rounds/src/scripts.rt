@@ -51,7 +51,7 @@ impl OpenScripts {
     pub fn depth(&self) -> usize
         ensures { result ≡ length self.now }
     {
-        self.scripts.len()
+        self.scripts.as_slice().len()
     }
 
     /// Whether no command is left.

@@ -2,7 +2,10 @@
 pub mod Words
 pub mod Places
 pub mod Text
+pub mod Spelled
 pub mod Commands
+pub mod Rows
+pub mod Arguments
 pub use Rattle.hv_text.specs.Lines
 pub use Rattle.hv_text.specs.Number
 pub use Rattle.hv_text.specs.Path

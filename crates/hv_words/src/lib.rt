@@ -5,12 +5,17 @@
 //! skipped.
 #![tactic(auto)]
 
+mod argument;
 mod command;
+mod read;
 mod refusal;
+mod row;
 mod script;
+mod text;
 mod word;
 
 pub use command::Command;
+pub use read::{lines_are_unambiguous, read_command};
 pub use refusal::WordsRefusal;
 pub use script::{Script, count_lines};
 pub use word::is_skipped_line;

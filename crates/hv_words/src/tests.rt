@@ -31,3 +31,63 @@ fn skips_blanks_and_comments(rt: HostRuntime) {
     assert!(rt; nothing.as_slice().is_empty());
     assert!(rt; is_skipped_line(b"   ") && !is_skipped_line(b"\t"));
 }
+
+/// What a line is read as, in short: the command's name, or the number of the bad word.
+fn short(alloc: Global, line: &[u8]) -> &'static str {
+    match read_command(alloc, line) {
+        Ok(Command::VfsLs(_)) => "ls",
+        Ok(Command::VfsCat(_)) => "cat",
+        Ok(Command::VfsMkdir(_)) => "mkdir",
+        Ok(Command::VfsRm(_)) => "rm",
+        Ok(Command::VfsWrite(_, _)) => "write",
+        Ok(Command::VfsRun(_)) => "run",
+        Ok(Command::TermRest(_)) => "rest",
+        Err(WordsRefusal::NoCommand) => "none",
+        Err(WordsRefusal::BadWords(3)) => "bad 3",
+        Err(WordsRefusal::BadWords(4)) => "bad 4",
+        Err(WordsRefusal::BadWords(5)) => "bad 5",
+        Err(WordsRefusal::BadWords(_)) => "bad",
+        Err(WordsRefusal::Memory(_)) => "memory",
+    }
+}
+
+#[test]
+fn reads_each_row_and_its_refusals(rt: HostRuntime) {
+    lines_are_unambiguous();
+    for (line, said) in [
+        (b"vfs ls /".as_slice(), "ls"),
+        (b"  vfs   cat /a/b  ".as_slice(), "cat"),
+        (b"vfs mkdir /1/2/3/4/5/6/7/8".as_slice(), "mkdir"),
+        (b"vfs mkdir /1/2/3/4/5/6/7/8/9".as_slice(), "bad 3"),
+        (b"vfs rm /x".as_slice(), "rm"),
+        (b"vfs run /".as_slice(), "run"),
+        (b"vfs fly".as_slice(), "none"),
+        (b"vfs".as_slice(), "none"),
+        (b"term ls /".as_slice(), "none"),
+        (b"vfs cat".as_slice(), "bad 3"),
+        (b"vfs cat /a /b".as_slice(), "bad 4"),
+        (b"vfs cat a".as_slice(), "bad 3"),
+        (b"vfs cat a \xc3".as_slice(), "none"),
+        (b"vfs mkdir /".as_slice(), "bad 3"),
+        (b"vfs rm /".as_slice(), "bad 3"),
+        (b"vfs write /x a\\sb\\n\\x4F\\\\".as_slice(), "write"),
+        (b"vfs write /x a\\q".as_slice(), "bad 4"),
+        (b"vfs write /x a\\x4".as_slice(), "bad 4"),
+        (b"vfs write /x \\".as_slice(), "bad 4"),
+        (b"vfs write /x".as_slice(), "bad 4"),
+        (b"vfs write /".as_slice(), "bad 3"),
+        (b"vfs write /x a b".as_slice(), "bad 5"),
+        (b"term rest 1".as_slice(), "rest"),
+        (b"term rest 0".as_slice(), "bad 3"),
+        (b"term rest 010000".as_slice(), "rest"),
+        (b"term rest 10001".as_slice(), "bad 3"),
+        (b"term rest 0x10".as_slice(), "rest"),
+        (b"term rest -1".as_slice(), "bad 3"),
+        (b"term rest 1 ".as_slice(), "rest"),
+        (b"term\trest 1".as_slice(), "none"),
+        (b"term rest 1\t".as_slice(), "none"),
+        (b"term rest 1\x7f".as_slice(), "none"),
+    ] {
+        assert_eq!(rt; short(rt.alloc(), line), said);
+    }
+}
