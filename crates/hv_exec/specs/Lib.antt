@@ -1,0 +1,7 @@
+pub mod Numbers
+pub mod Arithmetic
+pub mod Context
+pub mod Fields
+pub mod Operation
+pub mod Result
+pub mod Meaning

@@ -1,0 +1,99 @@
+//! The context of a hart: its registers, its control and status registers, and its pins.
+
+ghost use Rattle.std.specs.Prelude.{◌≡◌, ℕ, ◌+◌, ◌*◌, ◌%◌, ◌^◌, ◌<◌, if◌then◌else◌};
+ghost use Rattle.hv_exec.specs.Context.{register_of, with_register, advanced, pending_bits};
+
+/// The levels of the interrupt lines of a hart.
+#[derive(Clone, Copy, Drop)]
+pub struct InterruptPins {
+    pub ext: bool,
+    pub soft: bool,
+    pub timer: bool,
+}
+
+/// What a hart holds between two instructions.
+#[derive(Clone, Copy, Drop)]
+pub struct Ctx {
+    pub pc: u64,
+    /// Element 0 is never read.
+    pub x: [u64; 32],
+    pub mstatus: u64,
+    pub mie: u64,
+    pub mtvec: u64,
+    pub mscratch: u64,
+    pub mepc: u64,
+    pub mcause: u64,
+    pub mtval: u64,
+    pub hartid: u64,
+    pub pins: InterruptPins,
+}
+
+/// What is left to do after an instruction.
+#[derive(Clone, Copy, Debug, PartialEq, Eq, Drop)]
+pub enum After {
+    Done,
+    /// Load `size` bytes from `addr`, then call `finish_load`.
+    Load {
+        addr: u64,
+        size: u8,
+        signed: bool,
+        rd: u8,
+    },
+    /// Store the lowest `size` bytes of `value` at `addr`, then call `finish_store`.
+    Store {
+        addr: u64,
+        size: u8,
+        value: u64,
+    },
+    Trap {
+        cause: u64,
+        value: u64,
+    },
+    /// The hart waits for an interrupt.
+    Wait,
+    /// The instruction is one that `system` carries out.
+    System,
+}
+
+impl InterruptPins {
+    /// The bits of mip.
+    pub fn pending(self) -> u64
+        ensures { result ≡ pending_bits self }
+    {
+        let soft = if self.soft { 1 << 3 } else { 0 };
+        let timer = if self.timer { 1 << 7 } else { 0 };
+        let ext = if self.ext { 1 << 11 } else { 0 };
+        soft + timer + ext
+    }
+}
+
+impl Ctx {
+    /// The value of a register, which is 0 for x0.
+    pub fn register(&self, number: u8) -> u64
+        requires { number < 32 }
+        ensures { result ≡ register_of self.now number }
+    {
+        if number == 0 {
+            0
+        } else {
+            self.x[number as usize]
+        }
+    }
+
+    /// Writes a register, save x0.
+    pub fn set_register(&mut self, number: u8, value: u64)
+        requires { number < 32 }
+        ensures { self.new ≡ with_register self.old number value }
+    {
+        if number != 0 {
+            self.x[number as usize] = value;
+        }
+    }
+
+    /// Goes on to the next instruction.
+    pub fn advance(&mut self)
+        ensures { self.new ≡ advanced self.old }
+    {
+        self.pc = self.pc.wrapping_add(4);
+    }
+}

@@ -1,0 +1,17 @@
+//! What an instruction does to the context of a hart.
+#![tactic(auto)]
+
+mod alu;
+mod context;
+mod inst;
+mod multiply;
+mod operation;
+mod perform;
+mod result;
+#[cfg(test)]
+mod tests;
+mod word;
+
+pub use context::{After, Ctx, InterruptPins};
+pub use inst::Inst;
+pub use perform::{exec, finish_load, finish_store};

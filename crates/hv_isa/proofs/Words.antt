@@ -1,0 +1,349 @@
+-- Each word that is read as an instruction is the word that the instruction's fields add up to, so it is the only one.
+-- Below, o, f and g are values of opcode, funct3 and funct7 (or funct6), and d, s and t those of rd, rs1 and rs2.
+use Rattle.std.proofs.Common.{◌≡◌, ℕ, ◌+◌, ◌*◌, ◌/◌, ◌%◌, ◌^◌, ◌<◌, ℤ, Bool, true, false, List, [], ◌∷◌, Option, Some, refl, subst, arith, sym, ap, ◌∙◌, nat_eq}
+use Rattle.std.specs.Prelude.{if◌then◌else◌}
+use Rattle.std.proofs.lemmas.Bool.Decides.{nat_tests}
+use Rattle.hv_exec.specs.Numbers.{modulo, signed}
+use Rattle.hv_exec.specs.declared.inst.Inst.{Inst}
+use Rattle.hv_exec.specs.declared.inst.Inst.TheVariants.{Lui, Auipc, Jal, Jalr, Beq, Bne, Blt, Bge, Bltu, Bgeu, Lb, Lh, Lw, Ld, Lbu, Lhu, Lwu, Sb, Sh, Sw, Sd, Addi, Slti, Sltiu, Xori, Ori, Andi, Addiw, Slli, Srli, Srai, Slliw, Srliw, Sraiw, Add, Sll, Slt, Sltu, Xor, Srl, Or, And, Sub, Sra, Mul, Mulh, Mulhsu, Mulhu, Div, Divu, Rem, Remu, Addw, Sllw, Srlw, Subw, Sraw, Mulw, Divw, Divuw, Remw, Remuw, Fence, FenceI, Ecall, Ebreak, Mret, Wfi, Csrrw, Csrrs, Csrrc, Csrrwi, Csrrsi, Csrrci}
+use Rattle.hv_isa.specs.Formats.{bits, rd, rs1, rs2, i_immediate, s_immediate, b_immediate, j_immediate}
+use Rattle.hv_isa.specs.Table.{Fixed, Row, Group, funct3, funct6, funct7, whole, groups, fits, by_rows, rows_of, decoded, lui_rows, auipc_rows, jal_rows, jalr_rows, branch_rows, load_rows, store_rows, immediate_rows, immediate_word_rows, register_rows, register_word_rows, fence_rows, system_rows}
+
+-- what the fields of each format add up to
+unfoldable pub r_form : ℕ → ℕ → ℕ → ℕ → ℕ → ℕ → ℕ
+r_form o f g d s t = o + d * 2 ^ 7 + f * 2 ^ 12 + s * 2 ^ 15 + t * 2 ^ 20 + g * 2 ^ 25
+
+-- a shift by an amount of six bits
+unfoldable pub long_form : ℕ → ℕ → ℕ → ℕ → ℕ → ℕ → ℕ
+long_form o f g d s by = o + d * 2 ^ 7 + f * 2 ^ 12 + s * 2 ^ 15 + by * 2 ^ 20 + g * 2 ^ 26
+
+-- a field of twelve bits at the top
+unfoldable pub field_form : ℕ → ℕ → ℕ → ℕ → ℕ → ℕ
+field_form o f d s t = o + d * 2 ^ 7 + f * 2 ^ 12 + s * 2 ^ 15 + t * 2 ^ 20
+
+-- an immediate at the top
+abbrev pub i_form : ℕ → ℕ → ℕ → ℕ → ℤ → ℕ
+i_form o f d s imm = field_form o f d s (modulo 12 imm)
+
+-- the upper twenty bits
+unfoldable pub u_form : ℕ → ℕ → ℕ → ℕ
+u_form o d imm = o + d * 2 ^ 7 + imm * 2 ^ 12
+
+-- of the bits of an immediate
+unfoldable pub s_sum : ℕ → ℕ → ℕ → ℕ → ℕ → ℕ
+s_sum o f s t n = o + n % 2 ^ 5 * 2 ^ 7 + f * 2 ^ 12 + s * 2 ^ 15 + t * 2 ^ 20 + n / 2 ^ 5 * 2 ^ 25
+
+-- the immediate of a store
+abbrev pub s_form : ℕ → ℕ → ℕ → ℕ → ℤ → ℕ
+s_form o f s t imm = s_sum o f s t (modulo 12 imm)
+
+-- of the bits of an offset of a branch
+unfoldable pub b_sum : ℕ → ℕ → ℕ → ℕ → ℕ → ℕ
+b_sum o f s t n =
+    o + n / 2 ^ 11 % 2 * 2 ^ 7 + n / 2 % 2 ^ 4 * 2 ^ 8 + f * 2 ^ 12 + s * 2 ^ 15 + t * 2 ^ 20 + n / 2 ^ 5 % 2 ^ 6 * 2 ^ 25 + n / 2 ^ 12 * 2 ^ 31
+
+-- the offset of a branch
+abbrev pub b_form : ℕ → ℕ → ℕ → ℕ → ℤ → ℕ
+b_form o f s t offset = b_sum o f s t (modulo 13 offset)
+
+-- of the bits of an offset of a jump
+unfoldable pub j_sum : ℕ → ℕ → ℕ → ℕ
+j_sum o d n =
+    o + d * 2 ^ 7 + n / 2 ^ 12 % 2 ^ 8 * 2 ^ 12 + n / 2 ^ 11 % 2 * 2 ^ 20 + n / 2 % 2 ^ 10 * 2 ^ 21 + n / 2 ^ 20 * 2 ^ 31
+
+-- the offset of a jump
+abbrev pub j_form : ℕ → ℕ → ℤ → ℕ
+j_form o d offset = j_sum o d (modulo 21 offset)
+
+-- the word that the fields of an instruction add up to
+abbrev pub encoded : Inst → ℕ
+encoded (Lui d imm) = u_form 0x37 d imm
+encoded (Auipc d imm) = u_form 0x17 d imm
+encoded (Jal d imm) = j_form 0x6f d imm
+encoded (Jalr d s imm) = i_form 0x67 0 d s imm
+encoded (Beq s t imm) = b_form 0x63 0 s t imm
+encoded (Bne s t imm) = b_form 0x63 1 s t imm
+encoded (Blt s t imm) = b_form 0x63 4 s t imm
+encoded (Bge s t imm) = b_form 0x63 5 s t imm
+encoded (Bltu s t imm) = b_form 0x63 6 s t imm
+encoded (Bgeu s t imm) = b_form 0x63 7 s t imm
+encoded (Lb d s imm) = i_form 0x03 0 d s imm
+encoded (Lh d s imm) = i_form 0x03 1 d s imm
+encoded (Lw d s imm) = i_form 0x03 2 d s imm
+encoded (Ld d s imm) = i_form 0x03 3 d s imm
+encoded (Lbu d s imm) = i_form 0x03 4 d s imm
+encoded (Lhu d s imm) = i_form 0x03 5 d s imm
+encoded (Lwu d s imm) = i_form 0x03 6 d s imm
+encoded (Sb s t imm) = s_form 0x23 0 s t imm
+encoded (Sh s t imm) = s_form 0x23 1 s t imm
+encoded (Sw s t imm) = s_form 0x23 2 s t imm
+encoded (Sd s t imm) = s_form 0x23 3 s t imm
+encoded (Addi d s imm) = i_form 0x13 0 d s imm
+encoded (Slti d s imm) = i_form 0x13 2 d s imm
+encoded (Sltiu d s imm) = i_form 0x13 3 d s imm
+encoded (Xori d s imm) = i_form 0x13 4 d s imm
+encoded (Ori d s imm) = i_form 0x13 6 d s imm
+encoded (Andi d s imm) = i_form 0x13 7 d s imm
+encoded (Slli d s by) = long_form 0x13 1 0 d s by
+encoded (Srli d s by) = long_form 0x13 5 0 d s by
+encoded (Srai d s by) = long_form 0x13 5 16 d s by
+encoded (Addiw d s imm) = i_form 0x1b 0 d s imm
+encoded (Slliw d s by) = r_form 0x1b 1 0x0 d s by
+encoded (Srliw d s by) = r_form 0x1b 5 0x0 d s by
+encoded (Sraiw d s by) = r_form 0x1b 5 0x20 d s by
+encoded (Add d s t) = r_form 0x33 0 0x0 d s t
+encoded (Sll d s t) = r_form 0x33 1 0x0 d s t
+encoded (Slt d s t) = r_form 0x33 2 0x0 d s t
+encoded (Sltu d s t) = r_form 0x33 3 0x0 d s t
+encoded (Xor d s t) = r_form 0x33 4 0x0 d s t
+encoded (Srl d s t) = r_form 0x33 5 0x0 d s t
+encoded (Or d s t) = r_form 0x33 6 0x0 d s t
+encoded (And d s t) = r_form 0x33 7 0x0 d s t
+encoded (Sub d s t) = r_form 0x33 0 0x20 d s t
+encoded (Sra d s t) = r_form 0x33 5 0x20 d s t
+encoded (Mul d s t) = r_form 0x33 0 0x1 d s t
+encoded (Mulh d s t) = r_form 0x33 1 0x1 d s t
+encoded (Mulhsu d s t) = r_form 0x33 2 0x1 d s t
+encoded (Mulhu d s t) = r_form 0x33 3 0x1 d s t
+encoded (Div d s t) = r_form 0x33 4 0x1 d s t
+encoded (Divu d s t) = r_form 0x33 5 0x1 d s t
+encoded (Rem d s t) = r_form 0x33 6 0x1 d s t
+encoded (Remu d s t) = r_form 0x33 7 0x1 d s t
+encoded (Addw d s t) = r_form 0x3b 0 0x0 d s t
+encoded (Sllw d s t) = r_form 0x3b 1 0x0 d s t
+encoded (Srlw d s t) = r_form 0x3b 5 0x0 d s t
+encoded (Subw d s t) = r_form 0x3b 0 0x20 d s t
+encoded (Sraw d s t) = r_form 0x3b 5 0x20 d s t
+encoded (Mulw d s t) = r_form 0x3b 0 0x1 d s t
+encoded (Divw d s t) = r_form 0x3b 4 0x1 d s t
+encoded (Divuw d s t) = r_form 0x3b 5 0x1 d s t
+encoded (Remw d s t) = r_form 0x3b 6 0x1 d s t
+encoded (Remuw d s t) = r_form 0x3b 7 0x1 d s t
+encoded (Fence d s t) = field_form 0x0f 0 d s t
+encoded (FenceI d s t) = field_form 0x0f 1 d s t
+encoded Ecall = 0x00000073
+encoded Ebreak = 0x00100073
+encoded Mret = 0x30200073
+encoded Wfi = 0x10500073
+encoded (Csrrw d s t) = field_form 0x73 1 d s t
+encoded (Csrrs d s t) = field_form 0x73 2 d s t
+encoded (Csrrc d s t) = field_form 0x73 3 d s t
+encoded (Csrrwi d s t) = field_form 0x73 5 d s t
+encoded (Csrrsi d s t) = field_form 0x73 6 d s t
+encoded (Csrrci d s t) = field_form 0x73 7 d s t
+
+-- a number of k bits is the modulus of its signed reading
+modulo-signed_12 : (n : ℕ) → n < 2 ^ 12 → modulo 12 (signed 12 n) ≡ n
+modulo-signed_12 n h = grind (arith, nat_tests)
+
+-- the same at 13 bits
+modulo-signed_13 : (n : ℕ) → n < 2 ^ 13 → modulo 13 (signed 13 n) ≡ n
+modulo-signed_13 n h = grind (arith, nat_tests)
+
+-- the same at 21 bits
+modulo-signed_21 : (n : ℕ) → n < 2 ^ 21 → modulo 21 (signed 21 n) ≡ n
+modulo-signed_21 n h = grind (arith, nat_tests)
+
+-- a word that fits one fixed field has its value
+fits-one : (w : ℕ) (a : Fixed) → fits w (a ∷ []) ≡ true → bits w a.low a.width ≡ a.value
+fits-one w a h = grind (arith, nat_tests)
+
+-- a word has the values of two fixed fields
+record HasBoth (w : ℕ) (a b : Fixed) : Type 0 where
+  has_first : bits w a.low a.width ≡ a.value
+  has_second : bits w b.low b.width ≡ b.value
+
+-- a word that fits two fixed fields has both values
+fits-two : (w : ℕ) (a b : Fixed) → fits w (a ∷ b ∷ []) ≡ true → HasBoth w a b
+fits-two w a b h = record { has_first = grind (arith, nat_tests); has_second = grind (arith, nat_tests) }
+
+-- a word of the register format is what its fields add up to
+r_inverts : (o f g w : ℕ) → w < 2 ^ 32 → w % 2 ^ 7 ≡ o → fits w (funct7 g ∷ funct3 f ∷ []) ≡ true → r_form o f g (rd w) (rs1 w) (rs2 w) ≡ w
+unfolding r_form
+r_inverts o f g w below op fit = let b = fits-two w (funct7 g) (funct3 f) fit in omega arith
+
+-- the same of a shift by five bits
+short_inverts : (o f g w : ℕ) → w < 2 ^ 32 → w % 2 ^ 7 ≡ o → fits w (funct3 f ∷ funct7 g ∷ []) ≡ true → r_form o f g (rd w) (rs1 w) (rs2 w) ≡ w
+unfolding r_form
+short_inverts o f g w below op fit = let b = fits-two w (funct3 f) (funct7 g) fit in omega arith
+
+-- the same of a shift by six bits
+long_inverts : (o f g w : ℕ) → w < 2 ^ 32 → w % 2 ^ 7 ≡ o → fits w (funct3 f ∷ funct6 g ∷ []) ≡ true → long_form o f g (rd w) (rs1 w) (bits w 20 6) ≡ w
+unfolding long_form
+long_inverts o f g w below op fit = let b = fits-two w (funct3 f) (funct6 g) fit in omega arith
+
+-- the same of a field at the top
+field_inverts : (o f w : ℕ) → w < 2 ^ 32 → w % 2 ^ 7 ≡ o → fits w (funct3 f ∷ []) ≡ true → field_form o f (rd w) (rs1 w) (bits w 20 12) ≡ w
+unfolding field_form
+field_inverts o f w below op fit = let b = fits-one w (funct3 f) fit in omega arith
+
+-- the same of an immediate at the top
+i_inverts : (o f w : ℕ) → w < 2 ^ 32 → w % 2 ^ 7 ≡ o → fits w (funct3 f ∷ []) ≡ true → i_form o f (rd w) (rs1 w) (i_immediate w) ≡ w
+i_inverts o f w below op fit =
+    ap (λ n. field_form o f (rd w) (rs1 w) n) (modulo-signed_12 (bits w 20 12) (omega arith)) ∙ field_inverts o f w below op fit
+
+-- the same of the upper twenty bits
+u_inverts : (o w : ℕ) → w < 2 ^ 32 → w % 2 ^ 7 ≡ o → fits w [] ≡ true → u_form o (rd w) (bits w 12 20) ≡ w
+unfolding u_form
+u_inverts o w below op fit = omega arith
+
+-- the fields of a store add up to its word
+s_adds : (o f w : ℕ) → w < 2 ^ 32 → w % 2 ^ 7 ≡ o → bits w 12 3 ≡ f → s_sum o f (rs1 w) (rs2 w) (bits w 25 7 * 2 ^ 5 + bits w 7 5) ≡ w
+unfolding s_sum
+s_adds o f w below op here = omega arith
+
+-- so a word of the store format is what its fields add up to
+s_inverts : (o f w : ℕ) → w < 2 ^ 32 → w % 2 ^ 7 ≡ o → fits w (funct3 f ∷ []) ≡ true → s_form o f (rs1 w) (rs2 w) (s_immediate w) ≡ w
+s_inverts o f w below op fit =
+    ap (λ n. s_sum o f (rs1 w) (rs2 w) n) (modulo-signed_12 (bits w 25 7 * 2 ^ 5 + bits w 7 5) (omega arith)) ∙ s_adds o f w below op (fits-one w (funct3 f) fit)
+
+-- the bits of an offset of a branch
+abbrev b_bits : ℕ → ℕ
+b_bits w = bits w 31 1 * 2 ^ 12 + bits w 7 1 * 2 ^ 11 + bits w 25 6 * 2 ^ 5 + bits w 8 4 * 2
+
+-- the fields of a branch add up to its word
+b_adds : (o f w : ℕ) → w < 2 ^ 32 → w % 2 ^ 7 ≡ o → bits w 12 3 ≡ f → b_sum o f (rs1 w) (rs2 w) (b_bits w) ≡ w
+unfolding b_sum
+b_adds o f w below op here = omega arith
+
+-- so a word of the branch format is what its fields add up to
+b_inverts : (o f w : ℕ) → w < 2 ^ 32 → w % 2 ^ 7 ≡ o → fits w (funct3 f ∷ []) ≡ true → b_form o f (rs1 w) (rs2 w) (b_immediate w) ≡ w
+b_inverts o f w below op fit =
+    ap (λ n. b_sum o f (rs1 w) (rs2 w) n) (modulo-signed_13 (b_bits w) (omega arith)) ∙ b_adds o f w below op (fits-one w (funct3 f) fit)
+
+-- the bits of an offset of a jump
+abbrev j_bits : ℕ → ℕ
+j_bits w = bits w 31 1 * 2 ^ 20 + bits w 12 8 * 2 ^ 12 + bits w 20 1 * 2 ^ 11 + bits w 21 10 * 2
+
+-- the fields of a jump add up to its word
+j_adds : (o w : ℕ) → w < 2 ^ 32 → w % 2 ^ 7 ≡ o → j_sum o (rd w) (j_bits w) ≡ w
+unfolding j_sum
+j_adds o w below op = omega arith
+
+-- so a word of the jump format is what its fields add up to
+j_inverts : (o w : ℕ) → w < 2 ^ 32 → w % 2 ^ 7 ≡ o → fits w [] ≡ true → j_form o (rd w) (j_immediate w) ≡ w
+j_inverts o w below op fit =
+    ap (λ n. j_sum o (rd w) n) (modulo-signed_21 (j_bits w) (omega arith)) ∙ j_adds o w below op
+
+-- a word whose bits are all fixed is that word
+whole_inverts : (v w : ℕ) → w < 2 ^ 32 → w % 2 ^ 7 ≡ v % 2 ^ 7 → fits w (whole v ∷ []) ≡ true → v ≡ w
+whole_inverts v w below op fit = let b = fits-one w (whole v) fit in omega arith
+
+-- a word of the row is what its fields add up to
+abbrev Inverts : ℕ → Row → Type 0
+Inverts o r = (w : ℕ) → w < 2 ^ 32 → w % 2 ^ 7 ≡ o → fits w r.fixed ≡ true → encoded (r.read w) ≡ w
+
+-- each word of these rows is what its fields add up to
+abbrev AllInvert : ℕ → List Row → Type 0
+AllInvert o [] = Unit {0}
+AllInvert o (r ∷ rs) = Inverts o r × AllInvert o rs
+
+-- each word of these groups is what its fields add up to
+abbrev AllGroupsInvert : List Group → Type 0
+AllGroupsInvert [] = Unit {0}
+AllGroupsInvert (g ∷ gs) = AllInvert g.opcode g.rows × AllGroupsInvert gs
+
+-- a row that fits gives the instruction, and else the rows behind it do
+chosen : (o : ℕ) (r : Row) (w : ℕ) (i : Inst) (other : Option Inst) → Inverts o r → w < 2 ^ 32 → w % 2 ^ 7 ≡ o → (other ≡ Some i → encoded i ≡ w) → (test : Bool) → fits w r.fixed ≡ test → (if test then Some (r.read w) else other) ≡ Some i → encoded i ≡ w
+chosen o r w i other p below op rest true fit h =
+    let same : r.read w ≡ i = cc in
+    let P : Inst → Type 0 = λ j. encoded j ≡ w in
+    subst P same (p w below op fit)
+chosen o r w i other p below op rest false fit h = rest h
+
+-- a word that the rows read is what its fields add up to
+by_rows-inverts : (o : ℕ) (rows : List Row) → AllInvert o rows → (w : ℕ) → w < 2 ^ 32 → w % 2 ^ 7 ≡ o → (i : Inst) → by_rows w rows ≡ Some i → encoded i ≡ w
+by_rows-inverts o [] all w below op i h = cc
+by_rows-inverts o (r ∷ rs) all w below op i h =
+    chosen o r w i (by_rows w rs) all.0 below op (by_rows-inverts o rs all.1 w below op i) (fits w r.fixed) refl h
+
+-- a group of the opcode gives the rows, and else the groups behind it do
+picked : (g : Group) (rows : List Row) (w : ℕ) (i : Inst) → AllInvert g.opcode g.rows → w < 2 ^ 32 → (by_rows w rows ≡ Some i → encoded i ≡ w) → (test : Bool) → nat_eq (w % 2 ^ 7) g.opcode ≡ test → by_rows w (if test then g.rows else rows) ≡ Some i → encoded i ≡ w
+picked g rows w i all below rest true same h =
+    let op : w % 2 ^ 7 ≡ g.opcode = grind (arith, nat_tests) in
+    by_rows-inverts g.opcode g.rows all w below op i h
+picked g rows w i all below rest false same h = rest h
+
+-- a word that the groups read is what its fields add up to
+rows_of-inverts : (gs : List Group) → AllGroupsInvert gs → (w : ℕ) → w < 2 ^ 32 → (i : Inst) → by_rows w (rows_of (w % 2 ^ 7) gs) ≡ Some i → encoded i ≡ w
+rows_of-inverts [] all w below i h = cc
+rows_of-inverts (g ∷ gs) all w below i h =
+    picked g (rows_of (w % 2 ^ 7) gs) w i all.0 below (rows_of-inverts gs all.1 w below i) (nat_eq (w % 2 ^ 7) g.opcode) refl h
+
+-- each word of lui_rows is what its fields add up to
+lui_rows-invert : AllInvert 0x37 lui_rows
+lui_rows-invert =
+    (u_inverts 0x37, tt)
+
+-- each word of auipc_rows is what its fields add up to
+auipc_rows-invert : AllInvert 0x17 auipc_rows
+auipc_rows-invert =
+    (u_inverts 0x17, tt)
+
+-- each word of jal_rows is what its fields add up to
+jal_rows-invert : AllInvert 0x6f jal_rows
+jal_rows-invert =
+    (j_inverts 0x6f, tt)
+
+-- each word of jalr_rows is what its fields add up to
+jalr_rows-invert : AllInvert 0x67 jalr_rows
+jalr_rows-invert =
+    (i_inverts 0x67 0, tt)
+
+-- each word of branch_rows is what its fields add up to
+branch_rows-invert : AllInvert 0x63 branch_rows
+branch_rows-invert =
+    (b_inverts 0x63 0, (b_inverts 0x63 1, (b_inverts 0x63 4, (b_inverts 0x63 5, (b_inverts 0x63 6, (b_inverts 0x63 7, tt))))))
+
+-- each word of load_rows is what its fields add up to
+load_rows-invert : AllInvert 0x03 load_rows
+load_rows-invert =
+    (i_inverts 0x03 0, (i_inverts 0x03 1, (i_inverts 0x03 2, (i_inverts 0x03 3, (i_inverts 0x03 4, (i_inverts 0x03 5, (i_inverts 0x03 6, tt)))))))
+
+-- each word of store_rows is what its fields add up to
+store_rows-invert : AllInvert 0x23 store_rows
+store_rows-invert =
+    (s_inverts 0x23 0, (s_inverts 0x23 1, (s_inverts 0x23 2, (s_inverts 0x23 3, tt))))
+
+-- each word of immediate_rows is what its fields add up to
+immediate_rows-invert : AllInvert 0x13 immediate_rows
+immediate_rows-invert =
+    (i_inverts 0x13 0, (i_inverts 0x13 2, (i_inverts 0x13 3, (i_inverts 0x13 4, (i_inverts 0x13 6, (i_inverts 0x13 7, (long_inverts 0x13 1 0, (long_inverts 0x13 5 0, (long_inverts 0x13 5 16, tt)))))))))
+
+-- each word of immediate_word_rows is what its fields add up to
+immediate_word_rows-invert : AllInvert 0x1b immediate_word_rows
+immediate_word_rows-invert =
+    (i_inverts 0x1b 0, (short_inverts 0x1b 1 0x0, (short_inverts 0x1b 5 0x0, (short_inverts 0x1b 5 0x20, tt))))
+
+-- each word of register_rows is what its fields add up to
+register_rows-invert : AllInvert 0x33 register_rows
+register_rows-invert =
+    (r_inverts 0x33 0 0x0, (r_inverts 0x33 1 0x0, (r_inverts 0x33 2 0x0, (r_inverts 0x33 3 0x0, (r_inverts 0x33 4 0x0, (r_inverts 0x33 5 0x0, (r_inverts 0x33 6 0x0, (r_inverts 0x33 7 0x0, (r_inverts 0x33 0 0x20, (r_inverts 0x33 5 0x20, (r_inverts 0x33 0 0x1, (r_inverts 0x33 1 0x1, (r_inverts 0x33 2 0x1, (r_inverts 0x33 3 0x1, (r_inverts 0x33 4 0x1, (r_inverts 0x33 5 0x1, (r_inverts 0x33 6 0x1, (r_inverts 0x33 7 0x1, tt))))))))))))))))))
+
+-- each word of register_word_rows is what its fields add up to
+register_word_rows-invert : AllInvert 0x3b register_word_rows
+register_word_rows-invert =
+    (r_inverts 0x3b 0 0x0, (r_inverts 0x3b 1 0x0, (r_inverts 0x3b 5 0x0, (r_inverts 0x3b 0 0x20, (r_inverts 0x3b 5 0x20, (r_inverts 0x3b 0 0x1, (r_inverts 0x3b 4 0x1, (r_inverts 0x3b 5 0x1, (r_inverts 0x3b 6 0x1, (r_inverts 0x3b 7 0x1, tt))))))))))
+
+-- each word of fence_rows is what its fields add up to
+fence_rows-invert : AllInvert 0x0f fence_rows
+fence_rows-invert =
+    (field_inverts 0x0f 0, (field_inverts 0x0f 1, tt))
+
+-- each word of system_rows is what its fields add up to
+system_rows-invert : AllInvert 0x73 system_rows
+system_rows-invert =
+    (field_inverts 0x73 1, (field_inverts 0x73 2, (field_inverts 0x73 3, (field_inverts 0x73 5, (field_inverts 0x73 6, (field_inverts 0x73 7, (whole_inverts 0x00000073, (whole_inverts 0x00100073, (whole_inverts 0x30200073, (whole_inverts 0x10500073, tt))))))))))
+
+-- so it is for the whole table
+groups-invert : AllGroupsInvert groups
+groups-invert = (lui_rows-invert, (auipc_rows-invert, (jal_rows-invert, (jalr_rows-invert, (branch_rows-invert, (load_rows-invert, (store_rows-invert, (immediate_rows-invert, (immediate_word_rows-invert, (register_rows-invert, (register_word_rows-invert, (fence_rows-invert, (system_rows-invert, tt)))))))))))))
+
+-- a word that is read as an instruction is what the fields of the instruction add up to
+pub decoded-inverts : (w : ℕ) → w < 2 ^ 32 → (i : Inst) → decoded w ≡ Some i → encoded i ≡ w
+unfolding decoded
+decoded-inverts w below i h = rows_of-inverts groups groups-invert w below i h
+
+-- two words that are the same instruction are one
+pub decoded-once : (v w : ℕ) → v < 2 ^ 32 → w < 2 ^ 32 → (i : Inst) → decoded v ≡ Some i → decoded w ≡ Some i → v ≡ w
+decoded-once v w v_fits w_fits i v_is w_is = sym (decoded-inverts v v_fits i v_is) ∙ decoded-inverts w w_fits i w_is
