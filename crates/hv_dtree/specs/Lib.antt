@@ -1,0 +1,5 @@
+pub use Rattle.hv_text.specs.Front
+pub mod Names
+pub mod Nodes
+pub mod Values
+pub mod formers
