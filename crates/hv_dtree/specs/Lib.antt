@@ -1,4 +1,5 @@
 pub use Rattle.hv_text.specs.Front
+pub mod Lists
 pub mod Names
 pub mod Nodes
 pub mod Values

@@ -1,13 +1,21 @@
 //! Members of a node.
-ghost use Rattle.std.specs.Prelude.{◌≡◌, ◌<◌, [], ◌∷◌, ◌++◌, length, slice_get, slice_set, ◌↔◌, IsTrue, MatchOption};
+ghost use Rattle.std.specs.Prelude.{◌≡◌, ◌≢◌, [], ◌∷◌, ◌++◌, ◌↔◌, IsTrue, MatchOption};
+ghost use Rattle.hv_dtree.specs.Lists.{SwapsFirst};
 
 use std::alloc::Global;
 use std::marker::Model;
+use std::mem;
 
 /// A `Vec` that contracts see as the list of its elements, so that a tree of them is plain data.
-#[derive(Debug, Drop)]
 pub struct Items<T> {
     items: Vec<T>,
+}
+
+impl<T: Drop> Drop for Items<T> {
+    fn drop(self) {
+        let Items { items } = self;
+        drop(items);
+    }
 }
 
 impl<T> Model for Items<T> {
@@ -25,7 +33,9 @@ impl<T> Items<T> {
     pub fn new(alloc: Global) -> Items<T>
         ensures { result ≡ [] }
     {
-        Items { items: Vec::new(alloc) }
+        Items {
+            items: Vec::new(alloc),
+        }
     }
 
     pub fn from_vec(items: Vec<T>) -> Items<T>
@@ -51,5 +61,20 @@ impl<T> Items<T> {
         ensures { IsTrue result ↔ (self.now ≡ []) }
     {
         self.items.is_empty()
+    }
+
+    /// The last item, taken out.
+    pub fn pop(&mut self) -> Option<T>
+        ensures { MatchOption result ((self.old ≡ []) × (self.new ≡ [])) (λ last. self.old ≡ self.new ++ last ∷ []) }
+    {
+        self.items.pop()
+    }
+
+    /// Puts an item in the place of the first one, which is given back.
+    pub fn swap_first(&mut self, item: T) -> T
+        requires { self.old ≢ [] }
+        ensures { SwapsFirst self.old item result self.new }
+    {
+        mem::replace(&mut self.items[0], item)
     }
 }

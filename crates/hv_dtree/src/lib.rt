@@ -5,6 +5,8 @@
 
 mod items;
 mod node;
+#[cfg(test)]
+mod tests;
 mod tree;
 mod values;
 

@@ -8,7 +8,7 @@ use hv_text::Bytes;
 use std::marker::Model;
 
 /// A tree that contracts see as its root.
-#[derive(Debug, Drop)]
+#[derive(Drop)]
 pub struct Tree {
     root: Node,
 }
@@ -16,7 +16,6 @@ pub struct Tree {
 impl Model for Tree {
     ghost use Rattle.hv_dtree.specs.declared.node.Node.{Node};
     ghost use Rattle.hv_dtree.specs.Nodes.{IsRoot};
-
     ghost use Rattle.hv_dtree.specs.contracts.node.Node as node;
     ghost use Rattle.std.specs.Coded.{codes};
 
