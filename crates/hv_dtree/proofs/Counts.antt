@@ -1,9 +1,9 @@
 -- How many nodes a tree has.
-use Rattle.std.proofs.Common.{◌≡◌, ℕ, ◌+◌, ◌*◌, ◌<◌, ◌≤◌, List, [], ◌∷◌, ◌++◌, refl, sym, ap, ◌∙◌, arith}
+use Rattle.std.proofs.Common.{◌≡◌, ℕ, ◌+◌, ◌*◌, ◌<◌, ◌≤◌, List, [], ◌∷◌, ◌++◌, sym, ap, ◌∙◌, arith}
 use Rattle.hv_dtree.specs.Nodes.{children_of}
 use Rattle.hv_dtree.specs.declared.node.Node.{Node}
 use Rattle.hv_dtree.specs.declared.node.Node.TheOpen.{Node-F}
-use Rattle.hv_dtree.specs.declared.node.Node.TheViews.{out-Node, roll-Node}
+use Rattle.hv_dtree.specs.declared.node.Node.TheViews.{roll-Node}
 use Rattle.hv_dtree.specs.declared.node.Node.TheFolds.{fold-Node, fold-roll-Node, fold_out-Node}
 use Rattle.std.specs.Prelude.{map}
 use Rattle.std.proofs.Math.Nat.{mul-le-mul_left}

@@ -1,5 +1,5 @@
 -- Names in a device tree (Devicetree Specification 0.4, sections 2.2.1 and 2.2.4.1).
-use Rattle.std.specs.Prelude.{◌≡◌, ◌≢◌, ◌⊎◌, ℕ, ◌<◌, List, [], ◌∷◌, ◌++◌, length, codes}
+use Rattle.std.specs.Prelude.{◌≡◌, ◌⊎◌, ℕ, ◌<◌, List, [], ◌∷◌, ◌++◌, length, codes}
 use Rattle.std.specs.List.{All, Contains}
 use Rattle.std.specs.Char.{IsAsciiAlphanumeric}
 

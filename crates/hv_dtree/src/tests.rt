@@ -97,3 +97,18 @@ fn lets_a_deep_tree_go(rt: HostRuntime) -> Result<(), Fail> {
     assert!(rt; children.as_slice().len() == 2);
     Ok(())
 }
+
+#[test]
+fn finds_the_root(rt: HostRuntime) -> Result<(), Fail> {
+    let alloc = rt.alloc();
+    let root = Node {
+        name: Bytes::from_vec(Vec::new(alloc)),
+        props: Items::new(alloc),
+        children: Items::new(alloc),
+    };
+    let tree = Tree::of_root(root);
+    assert!(rt; tree.root().name.as_slice().is_empty());
+    assert!(rt; tree.find(&[]).is_some());
+    assert!(rt; tree.find(&[bytes(alloc, b"a")?]).is_none());
+    Ok(())
+}

@@ -1,5 +1,5 @@
-use Rattle.std.proofs.Common.{◌≡◌, ℕ, List, [], length, false, eqb, ap, subst, Err}
-use Rattle.std.specs.Prelude.{Option, Some}
+use Rattle.std.proofs.Common.{◌≡◌, ℕ, List, [], length, eqb, ap, subst, Err}
+use Rattle.std.specs.Prelude.{Option}
 use Rattle.hv_dtree.specs.Values.{IsText}
 use Rattle.hv_dtree.specs.declared.node.PropRefusal.TheVariants.{BadForm}
 use Rattle.hv_dtree.proofs.Strings.{not_one}
