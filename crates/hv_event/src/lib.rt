@@ -10,9 +10,9 @@ mod reply;
 mod step;
 
 pub use event::{ActorId, CellId, Event};
-pub use print::print_event;
+pub use print::{print_event, print_refusal};
 pub use reply::{Refusal, Reply};
-pub use step::{Cat, Step};
+pub use step::{Bad, Cat, Ls, Mkdir, Rest, Rm, Run, Step, Write};
 
 #[cfg(test)]
 mod tests;

@@ -1,11 +1,14 @@
 //! Events as lines.
-ghost use Rattle.std.specs.Prelude.{◌≡◌, ◌++◌, OnOk, OnErr, IfOk};
-ghost use Rattle.hv_event.specs.Line.{actor_text, hex_text, hex_pairs, refusal_text, step_text, reply_text, event_text};
+ghost use Rattle.std.specs.Prelude.{◌≡◌, ◌++◌, OnOk, OnErr, IfOk, List, ℕ, codes};
+ghost use Rattle.std.specs.Fmt.{decimal};
+ghost use Rattle.hv_text.specs.Path.{path_text};
+ghost use Rattle.hv_event.specs.Line.{actor_text, hex_text, hex_pairs, further_names, names_text, refusal_text, refused_text};
+ghost use Rattle.hv_event.specs.Line.{given_text, done_text, step_text, reply_text, event_text};
 
 use crate::event::{ActorId, Event};
 use crate::reply::{Refusal, Reply};
 use crate::step::Step;
-use hv_text::{Bytes, push_decimal, push_hex};
+use hv_text::{Bytes, Path, Strings, push_decimal, push_hex};
 use std::alloc::{AllocError, Global};
 
 fn push_actor(alloc: Global, to: &mut Bytes, actor: ActorId) -> Result<(), AllocError>
@@ -32,33 +35,147 @@ fn push_pairs(alloc: Global, to: &mut Bytes, bytes: &[u8]) -> Result<(), AllocEr
     Ok(())
 }
 
-fn push_bytes(alloc: Global, to: &mut Bytes, bytes: &[u8]) -> Result<(), AllocError>
+fn push_bytes(alloc: Global, to: &mut Bytes, bytes: &Bytes) -> Result<(), AllocError>
     ensures { OnOk result (to.new ≡ to.old ++ hex_text bytes.now) }
 {
+    let bytes = bytes.as_slice();
     if bytes.is_empty() {
         return to.append(b"-");
     }
     push_pairs(alloc, to, bytes)
 }
 
-fn push_refusal(to: &mut Bytes, refusal: Refusal) -> Result<(), AllocError>
+fn push_path(alloc: Global, to: &mut Bytes, path: &Path) -> Result<(), AllocError>
+    ensures { OnOk result (to.new ≡ to.old ++ path_text path.now) }
+{
+    let text = path.text(alloc)?;
+    to.append(text.as_slice())
+}
+
+fn push_further_names(to: &mut Bytes, names: &[Bytes]) -> Result<(), AllocError>
+    ensures { OnOk result (to.new ≡ to.old ++ further_names names.now) }
+{
+    for name in names {
+        to.append(b",")?;
+        to.append(name.as_slice())?;
+    }
+    Ok(())
+}
+
+fn push_names(to: &mut Bytes, names: &Strings) -> Result<(), AllocError>
+    ensures { OnOk result (to.new ≡ to.old ++ names_text names.now) }
+{
+    match names.as_slice().split_first() {
+        Some((first, others)) => {
+            to.append(first.as_slice())?;
+            push_further_names(to, others)
+        }
+        None => to.append(b"."),
+    }
+}
+
+fn push_refusal(alloc: Global, to: &mut Bytes, refusal: Refusal) -> Result<(), AllocError>
     ensures { OnOk result (to.new ≡ to.old ++ refusal_text refusal) }
 {
     match refusal {
+        Refusal::NoCommand => to.append(b"NoCommand"),
+        Refusal::BadWords(number) => {
+            to.append(b"BadWords ")?;
+            push_decimal(alloc, to, number)
+        }
         Refusal::NoEntry => to.append(b"NoEntry"),
         Refusal::NotDir => to.append(b"NotDir"),
         Refusal::IsDir => to.append(b"IsDir"),
+        Refusal::Exists => to.append(b"Exists"),
+        Refusal::NotEmpty => to.append(b"NotEmpty"),
+        Refusal::TooDeep => to.append(b"TooDeep"),
+        Refusal::TooLong => to.append(b"TooLong"),
     }
+}
+
+/// Appends a refusal's text, as reports and event lines have it. At `Err` nothing has changed.
+pub fn print_refusal(alloc: Global, to: &mut Bytes, refusal: Refusal) -> Result<(), AllocError>
+    ensures ok { OnOk result (to.new ≡ to.old ++ refusal_text refusal) }
+    ensures err { OnErr result (to.new ≡ to.old) }
+{
+    let mut text = Bytes::from_vec(Vec::new(alloc));
+    push_refusal(alloc, &mut text, refusal)?;
+    to.append(text.as_slice())
+}
+
+fn push_refused(alloc: Global, to: &mut Bytes, refusal: Refusal) -> Result<(), AllocError>
+    ensures { OnOk result (to.new ≡ to.old ++ refused_text refusal) }
+{
+    to.append(b"refused ")?;
+    push_refusal(alloc, to, refusal)
+}
+
+fn push_done(alloc: Global, to: &mut Bytes, answer: &Result<(), Refusal>) -> Result<(), AllocError>
+    ensures { OnOk result (to.new ≡ to.old ++ done_text answer.now) }
+{
+    match answer {
+        Ok(()) => to.append(b"ok"),
+        Err(refusal) => push_refused(alloc, to, *refusal),
+    }
+}
+
+fn push_given_bytes(
+    alloc: Global,
+    to: &mut Bytes,
+    answer: &Result<Bytes, Refusal>,
+) -> Result<(), AllocError>
+    ensures { OnOk result (to.new ≡ to.old ++ given_text hex_text answer.now) }
+{
+    match answer {
+        Ok(bytes) => {
+            to.append(b"ok ")?;
+            push_bytes(alloc, to, bytes)
+        }
+        Err(refusal) => push_refused(alloc, to, *refusal),
+    }
+}
+
+fn push_given_names(
+    alloc: Global,
+    to: &mut Bytes,
+    answer: &Result<Strings, Refusal>,
+) -> Result<(), AllocError>
+    ensures { OnOk result (to.new ≡ to.old ++ given_text names_text answer.now) }
+{
+    match answer {
+        Ok(names) => {
+            to.append(b"ok ")?;
+            push_names(to, names)
+        }
+        Err(refusal) => push_refused(alloc, to, *refusal),
+    }
+}
+
+fn push_with_path(alloc: Global, to: &mut Bytes, word: &[u8], path: &Path) -> Result<(), AllocError>
+    ensures { OnOk result (to.new ≡ to.old ++ (word.now ++ path_text path.now)) }
+{
+    to.append(word)?;
+    push_path(alloc, to, path)
 }
 
 fn push_step(alloc: Global, to: &mut Bytes, step: &Step) -> Result<(), AllocError>
     ensures { OnOk result (to.new ≡ to.old ++ step_text step.now) }
 {
     match step {
-        Step::Cat(cat) => {
-            to.append(b"cat ")?;
-            let path = cat.path.text(alloc)?;
-            to.append(path.as_slice())
+        Step::Bad(bad) => {
+            to.append(b"bad ")?;
+            push_bytes(alloc, to, &bad.line)
+        }
+        Step::Rest(_) => to.append(b"rest"),
+        Step::Ls(ls) => push_with_path(alloc, to, b"ls ", &ls.path),
+        Step::Cat(cat) => push_with_path(alloc, to, b"cat ", &cat.path),
+        Step::Run(run) => push_with_path(alloc, to, b"run ", &run.path),
+        Step::Mkdir(mkdir) => push_with_path(alloc, to, b"mkdir ", &mkdir.path),
+        Step::Rm(rm) => push_with_path(alloc, to, b"rm ", &rm.path),
+        Step::Write(write) => {
+            push_with_path(alloc, to, b"write ", &write.path)?;
+            to.append(b" ")?;
+            push_bytes(alloc, to, &write.bytes)
         }
     }
 }
@@ -67,17 +184,18 @@ fn push_reply(alloc: Global, to: &mut Bytes, reply: &Reply) -> Result<(), AllocE
     ensures { OnOk result (to.new ≡ to.old ++ reply_text reply.now) }
 {
     match reply {
-        Reply::Cat(Ok(bytes)) => {
-            to.append(b"ok ")?;
-            push_bytes(alloc, to, bytes.as_slice())
-        }
-        Reply::Cat(Err(refusal)) => {
-            to.append(b"refused ")?;
-            push_refusal(to, *refusal)
-        }
+        Reply::Bad(refusal) => push_refused(alloc, to, *refusal),
+        Reply::Rest => to.append(b"ok"),
+        Reply::Ls(answer) => push_given_names(alloc, to, answer),
+        Reply::Cat(answer) => push_given_bytes(alloc, to, answer),
+        Reply::Run(answer) => push_given_bytes(alloc, to, answer),
+        Reply::Mkdir(answer) => push_done(alloc, to, answer),
+        Reply::Rm(answer) => push_done(alloc, to, answer),
+        Reply::Write(answer) => push_done(alloc, to, answer),
     }
 }
 
+#[tactic(auto, unfolding(crate::specs::Line::event_text))]
 fn event_line(alloc: Global, event: &Event) -> Result<Bytes, AllocError>
     ensures { IfOk result (λ line. line ≡ event_text event.now) }
 {

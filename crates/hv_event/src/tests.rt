@@ -16,6 +16,9 @@ fn prints_the_line_of_a_file_that_was_read(rt: HostRuntime) -> Result<(), Fail> 
     };
     let mut line = Bytes::from_vec(Vec::new(rt.alloc()));
     print_event(rt.alloc(), &mut line, &event)?;
-    assert_eq!(rt; line.as_slice(), b"1 t0 1 cat /hello -> ok 68690a".as_slice());
+    assert_eq!(rt;
+        line.as_slice(),
+        b"1 t0 1 cat /hello -> ok 68690a".as_slice()
+    );
     Ok(())
 }

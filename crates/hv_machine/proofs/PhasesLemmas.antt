@@ -345,3 +345,19 @@ module _ (m : Machine) (rank : m.Cell → ℕ) (is_actor : m.Cell → Bool) (fir
         agree = agree-of-run m rank t (boot ++ rest) run;
         log = filter-append (λ e. m.same first (m.actor e)) boot rest ∙ ap (λ zs. zs ++ events_by m first rest) (filter-all (λ e. m.same first (m.actor e)) boot own);
       }
+
+  -- A run in two parts and the merged list of what it made lead to the same state.
+  pub same-end : (is_first : is_actor first ≡ true) → (s : State m) (boot rest all : List m.Event) → (parts : IsTwoPart m is_actor first s boot rest)
+      → (merged : IsMerged m rank (λ a. events_by m a (boot ++ rest)) all) → (x : m.Cell)
+      → state_after m (together m is_actor first (state_after m s boot))
+          (two-part is_first s (λ a. events_by m a (boot ++ rest)) (λ x. events_at m x (boot ++ rest)) boot (events_by m first rest) all (began-of-two-part is_first s boot rest parts) merged).later x
+      ≡ state_after m (together m is_actor first (state_after m s boot)) rest x
+  same-end is_first s boot rest all parts merged x =
+      let Is : m.Event → Type 0 = λ e. m.actor e ≡ first in
+      let Own : m.Event → Type 0 = λ e. m.same first (m.actor e) ≡ true in
+      let SameFirst : m.Cell → Type 0 = λ x. m.same first x ≡ true in
+      let own : AllByRecursion Own boot = all-map Is Own (λ e h. subst SameFirst (sym h) (m.same_self first)) boot parts.alone in
+      let t : State m = others_at m is_actor first (fold_at m.rules first (s first) boot).stamp s in
+      let begins : ◌≡◌ {A = State m} (state_after m t boot) (together m is_actor first (state_after m s boot)) = states is_first s boot own in
+      let whole = two-part is_first s (λ a. events_by m a (boot ++ rest)) (λ x. events_at m x (boot ++ rest)) boot (events_by m first rest) all (began-of-two-part is_first s boot rest parts) merged in
+      whole.values x ∙ sym (after-fold m rank t x (boot ++ rest)) ∙ ap (λ u. u x) (after-append t boot rest) ∙ ap (λ u. state_after m u rest x) begins

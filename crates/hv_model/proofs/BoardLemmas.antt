@@ -8,14 +8,13 @@ use Rattle.hv_machine.proofs.PhasesLemmas.{two-part, began-of-two-part}
 use Rattle.hv_event.specs.declared.event.CellId.{CellId}
 use Rattle.hv_event.specs.declared.event.ActorId.{ActorId}
 use Rattle.hv_event.specs.declared.event.Event.{Event}
-use Rattle.hv_model.specs.Origin.{Origin, own_script}
+use Rattle.hv_model.specs.Origin.{Origin}
 use Rattle.hv_model.specs.Cell.{Cell, Component, Actor, same_cell, same_actor, is_actor, rank_of}
 use Rattle.hv_model.specs.CellLaws.{same_actor-self, same_actor-only}
 use Rattle.hv_model.specs.Entry.{Entry}
-use Rattle.hv_model.specs.Words.{commands_of}
 use Rattle.hv_model.specs.Rules.{rules, machine, components}
 use Rattle.hv_model.specs.Terminal.{TerminalState, IsAtBootEnd}
-use Rattle.hv_model.specs.Legal.{first, greatest_stamp, start, Legal, reached}
+use Rattle.hv_model.specs.Legal.{first, greatest_stamp, start, Legal, reached, own_at_start}
 use Rattle.hv_model.specs.Rounds.{RoundsAreLegal}
 use Rattle.hv_model.specs.Board.{ClosedBoardIsLegal}
 
@@ -53,7 +52,7 @@ closed-legal O logs entries boot own all closed =
     let InRange : List Entry → Type 0 = AllByRecursion (λ e. e.event.stamp ≤ greatest_stamp) in
     let events = λ (es : List Entry). map (λ (e : Entry). e.event) es in
     let Ended : TerminalState → Type 0 = IsAtBootEnd in
-    let Within : TerminalState → Type 0 = λ t. t.own ≡ commands_of (own_script O 0) in
+    let Within : TerminalState → Type 0 = λ t. t.own ≡ own_at_start O 0 in
     let same = ap (λ h. h.value) (sym parts.booted) in (
       reached O boot parts.later,
       record {
@@ -80,7 +79,7 @@ rounds-legal O H rounds =
     let boots : state_after m (start O) rounds.boot first ≡ fold_at rules first (start O first) rounds.boot =
     (two-part m rank_of is_actor first (has-actors O) refl (start O) logs entries rounds.boot own rounds.all began rounds.merged).booted in
     let Ended : TerminalState → Type 0 = IsAtBootEnd in
-    let Within : TerminalState → Type 0 = λ t. t.own ≡ commands_of (own_script O 0) in
+    let Within : TerminalState → Type 0 = λ t. t.own ≡ own_at_start O 0 in
     let same = ap (λ h. h.value) boots in
     let Is : List Event → Type 0 = Legal O in
     subst Is rounds.events

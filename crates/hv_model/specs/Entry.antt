@@ -9,6 +9,7 @@ use Rattle.hv_event.specs.declared.step.Step.TheVariants as step
 abbrev pub nothing : Carry
 nothing = record { lines = None }
 
--- Of a carry, a step hands over what its row names.
+-- Of a carry, a step hands over what its row names: a script that is run, the number of its lines.
 abbrev pub handed_over : Step → Carry → Carry
-handed_over (step.Cat _) c = nothing
+handed_over (step.Run _) c = record nothing { lines = c.lines }
+handed_over _ c = nothing

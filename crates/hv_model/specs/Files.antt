@@ -1,76 +1,69 @@
--- The component of the files: a finite map from paths to folders and files.
-use Rattle.std.specs.Prelude.{◌≡◌, ℕ, Result, Ok, Err, Option, None, Some, List, [], ◌∷◌, ◌++◌}
-use Rattle.std.specs.Cmp.Lexicographic.{slice_cmp}
-use Rattle.std.specs.Ordering.{nat_cmp}
-use Rattle.std.specs.declared.cmp.Ordering.{Ordering}
-use Rattle.std.specs.FinMap.{put, find}
+-- The component of the files: what it asks of a step, and what a step leaves.
+use Rattle.std.specs.Prelude.{◌≡◌, ◌⊎◌, ℕ, Result, Ok, Err, Option, None, Some, List, length}
+use Rattle.std.specs.Prelude.{map as map_list}
+use Rattle.hv_text.specs.Lines.{script_lines}
+pub use Rattle.hv_files.specs.FileMap.{FileMap, read_file, list_folder, made_folder, with_file, without}
+use Rattle.hv_files.specs.FileMap.{load_files as load_pairs}
+use Rattle.hv_files.specs.declared.refusal.FileRefusal.{FileRefusal}
+use Rattle.hv_files.specs.declared.refusal.FileRefusal.TheVariants as file
 use Rattle.hv_bundle.specs.declared.file.File.{File}
 use Rattle.hv_event.specs.declared.step.Step.{Step}
 use Rattle.hv_event.specs.declared.step.Step.TheVariants as step
 use Rattle.hv_event.specs.declared.reply.Reply.{Reply}
 use Rattle.hv_event.specs.declared.reply.Reply.TheVariants as reply
 use Rattle.hv_event.specs.declared.reply.Refusal.{Refusal}
-use Rattle.hv_event.specs.declared.reply.Refusal.TheVariants.{NoEntry, NotDir, IsDir}
+use Rattle.hv_event.specs.declared.reply.Refusal.TheVariants as refusal
 use Rattle.hv_model.specs.Entry.{Carry}
-
--- A path is the list of its names.
-abbrev pub Path : Type 0
-Path = List (List ℕ)
-
--- At a path there is a folder, or a file with its bytes.
-pub data Node : Type 0 where
-  Folder : Node
-  Holds : List ℕ → Node
-
--- The map has its paths in rising order; the root has no entry.
-abbrev pub FileMap : Type 0
-FileMap = List (Path × Node)
-
--- Paths are in order by their names, and names by their bytes.
-abbrev pub path_cmp : Path → Path → Ordering
-path_cmp = slice_cmp (slice_cmp nat_cmp)
-
--- The root is a folder; what else is there, the map says.
-abbrev pub node_at : FileMap → Path → Option Node
-node_at m [] = Some Folder
-node_at m (n ∷ ns) = find path_cmp (n ∷ ns) m
-
--- A file's bytes are read, a folder's are not, and where nothing is there is no entry.
-abbrev pub bytes_at : Option Node → Result (List ℕ) Refusal
-bytes_at None = Err NoEntry
-bytes_at (Some Folder) = Err IsDir
-bytes_at (Some (Holds bytes)) = Ok bytes
-
--- A path leads on through a folder alone.
-abbrev pub go_on : {A : Type 0} → Option Node → Result A Refusal → Result A Refusal
-go_on None found = Err NoEntry
-go_on (Some Folder) found = found
-go_on (Some (Holds bytes)) found = Err NotDir
-
--- Reading goes from folder to folder: the names gone through, and the names that are left.
-abbrev pub read_from : FileMap → Path → Path → Result (List ℕ) Refusal
-read_from m gone [] = bytes_at (node_at m gone)
-read_from m gone (n ∷ ns) = go_on (node_at m gone) (read_from m (gone ++ n ∷ []) ns)
-
--- The bytes of the file at a path, or the first refusal on the way from the root.
-abbrev pub read_file : FileMap → Path → Result (List ℕ) Refusal
-read_file m path = read_from m [] path
-
--- A file is added with the folders on the way to it.
-abbrev pub add_from : FileMap → Path → Path → List ℕ → FileMap
-add_from m gone [] bytes = put path_cmp gone (Holds bytes) m
-add_from m [] (n ∷ ns) bytes = add_from m (n ∷ []) ns bytes
-add_from m (g ∷ gs) (n ∷ ns) bytes = add_from (put path_cmp (g ∷ gs) Folder m) ((g ∷ gs) ++ n ∷ []) ns bytes
 
 -- The map of a bundle's files has each of them, with the folders on the way.
 abbrev pub load_files : List File → FileMap
-load_files [] = []
-load_files (f ∷ fs) = add_from (load_files fs) [] f.path f.bytes
+load_files files = load_pairs (map_list (λ (f : File). (f.path, f.bytes)) files)
+
+-- A refusal of the files, as a step's reply shows it; the definitions of the files give no want of memory.
+abbrev pub refusal_of : FileRefusal → Refusal
+refusal_of file.NoEntry = refusal.NoEntry
+refusal_of file.NotDir = refusal.NotDir
+refusal_of file.IsDir = refusal.IsDir
+refusal_of file.Exists = refusal.Exists
+refusal_of file.NotEmpty = refusal.NotEmpty
+refusal_of (file.Memory e) = refusal.NoEntry
+
+-- What the files give, as a step's reply shows it.
+abbrev pub answered : {A : Type 0} → Result A FileRefusal → Result A Refusal
+answered (Ok given) = Ok given
+answered (Err why) = Err (refusal_of why)
+
+-- Whether the files change, as a step's reply shows it.
+abbrev pub done : Result FileMap FileRefusal → Result (Unit {0}) Refusal
+done (Ok m) = Ok tt
+done (Err why) = Err (refusal_of why)
+
+-- The changed files, or those before where the change is refused.
+abbrev pub changed : FileMap → Result FileMap FileRefusal → FileMap
+changed m (Ok new) = new
+changed m (Err why) = m
+
+-- A script that is run is found with its number of lines, unless too many scripts are open or it has too many lines;
+-- where it is not found, the reply says why, unless too many scripts are open.
+abbrev pub FindsScript : Result (List ℕ) FileRefusal → Result (List ℕ) Refusal → Option ℕ → Type 0
+FindsScript (Ok bytes) r lines =
+    (lines ≡ Some (length (script_lines bytes)))
+    × ((r ≡ Ok bytes) ⊎ ((r ≡ Err refusal.TooDeep) ⊎ (r ≡ Err refusal.TooLong)))
+FindsScript (Err why) r lines = (lines ≡ None) × ((r ≡ Err (refusal_of why)) ⊎ (r ≡ Err refusal.TooDeep))
 
 -- The files agree to a step where the reply is the one that they give.
 abbrev pub FilesAgree : FileMap → Step → Reply → Carry → Type 0
-FilesAgree m (step.Cat s) r c = r ≡ reply.Cat (read_file m s.path)
+FilesAgree m (step.Ls s) r c = r ≡ reply.Ls (answered (list_folder m s.path))
+FilesAgree m (step.Cat s) r c = r ≡ reply.Cat (answered (read_file m s.path))
+FilesAgree m (step.Run s) (reply.Run r) c = FindsScript (read_file m s.path) r c.lines
+FilesAgree m (step.Mkdir s) r c = r ≡ reply.Mkdir (done (made_folder m s.path))
+FilesAgree m (step.Rm s) r c = r ≡ reply.Rm (done (without m s.path))
+FilesAgree m (step.Write s) r c = r ≡ reply.Write (done (with_file m s.path s.bytes))
+FilesAgree m _ r c = ⊥
 
--- A step leaves these files.
+-- A step leaves the files changed where it makes, removes or writes something, and is not refused.
 abbrev pub files_after : FileMap → Step → Carry → FileMap
-files_after m (step.Cat s) c = m
+files_after m (step.Mkdir s) c = changed m (made_folder m s.path)
+files_after m (step.Rm s) c = changed m (without m s.path)
+files_after m (step.Write s) c = changed m (with_file m s.path s.bytes)
+files_after m _ c = m

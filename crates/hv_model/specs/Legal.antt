@@ -1,5 +1,5 @@
 -- Legal and complete histories.
-use Rattle.std.specs.Prelude.{◌≡◌, ℕ, ◌≤◌, ◌^◌, List, [], ◌++◌, map, ◌==◌, if◌then◌else◌}
+use Rattle.std.specs.Prelude.{◌≡◌, ℕ, ◌+◌, ◌≤◌, ◌^◌, length, List, [], ◌++◌, map, ◌==◌, if◌then◌else◌, ◌∷◌}
 use Rattle.std.specs.List.{AllByRecursion, range_with_len}
 use Rattle.hv_machine.specs.Machine.{State, state_after}
 use Rattle.hv_machine.specs.Merging.{IsRising}
@@ -10,18 +10,28 @@ use Rattle.hv_event.specs.declared.event.Event.{Event}
 use Rattle.hv_model.specs.Origin.{Origin, boot_script, own_script, terminals}
 use Rattle.hv_model.specs.Cell.{Cell, Component, Actor, is_actor, rank_of}
 use Rattle.hv_model.specs.Entry.{Entry}
-use Rattle.hv_model.specs.Words.{commands_of}
-use Rattle.hv_model.specs.Files.{load_files}
-use Rattle.hv_model.specs.Terminal.{TerminalState, IsAtBootEnd, IsAtEnd}
+use Rattle.hv_text.specs.Lines.{script_lines}
+use Rattle.hv_words.specs.Words.{commands_of}
+use Rattle.hv_model.specs.Files.{FileMap, load_files}
+use Rattle.hv_model.specs.Terminal.{TerminalState, Scripts, IsAtBootEnd, IsAtEnd}
 use Rattle.hv_model.specs.Rules.{Value, machine}
 
 -- Terminal 0 begins with the boot script, the others with none.
-abbrev pub boot_commands : Origin → ℕ → List (List ℕ)
-boot_commands O t = if t == 0 then commands_of (boot_script O) else []
+abbrev pub boot_at_start : Origin → ℕ → Scripts
+boot_at_start O t = if t == 0 then commands_of (boot_script O) ∷ [] else []
+
+-- A terminal begins with its own script open behind the boot script.
+abbrev pub own_at_start : Origin → ℕ → Scripts
+own_at_start O t = commands_of (own_script O t) ∷ []
+
+-- The lines of a terminal's scripts at the start, blank lines and comments included.
+abbrev pub lines_at_start : Origin → ℕ → ℕ
+lines_at_start O t = (if t == 0 then length (script_lines (boot_script O)) else 0) + length (script_lines (own_script O t))
 
 -- A terminal at the start has made nothing, and has its commands before it.
 abbrev pub terminal_at_start : Origin → ℕ → TerminalState
-terminal_at_start O t = record { count = 0; boot = boot_commands O t; own = commands_of (own_script O t) }
+terminal_at_start O t =
+    record { count = 0; rests = 0; boot = boot_at_start O t; own = own_at_start O t; lines = lines_at_start O t }
 
 -- At the start the files are the bundle's, and no actor has made anything.
 abbrev pub value_at_start : Origin → (x : Cell) → Value x
@@ -65,7 +75,7 @@ module _ (O : Origin) where
     -- Terminal 0 made the boot part alone, and each part is a run
     pub parts : IsTwoPart (machine O) is_actor first (start O) boot later
     -- the boot part has none of Terminal 0's own commands
-    pub within : (booted boot first).value.own ≡ commands_of (own_script O 0)
+    pub within : (booted boot first).value.own ≡ own_at_start O 0
 
   -- The parts lead to a state: that of the whole once the boot script has ended, and before that nothing is later.
   pub record LeadTo (boot later : List Entry) (s : State (machine O)) : Type 0 where
@@ -91,3 +101,16 @@ module _ (O : Origin) where
   -- A history is complete where it leads to a state in which nothing is left to do.
   abbrev pub Complete : List Event → Type 0
   Complete H = (s : State (machine O)) × Leads H s × IsComplete s
+
+  -- A run that was stopped: its history leads to a state that has these files.
+  pub record IsStoppedRun (H : List Event) (files : FileMap) : Type 0 where
+    pub state : State (machine O)
+    pub legal : Leads H state
+    pub final : (state (Component component.Files)).value ≡ files
+
+  -- A run that was finished: its history leads to a state that has these files, and in which nothing is left to do.
+  pub record IsFinishedRun (H : List Event) (files : FileMap) : Type 0 where
+    pub state : State (machine O)
+    pub legal : Leads H state
+    pub complete : IsComplete state
+    pub final : (state (Component component.Files)).value ≡ files

@@ -3,7 +3,6 @@ pub mod Origin
 pub mod Cell
 pub mod CellLaws
 pub mod Entry
-pub mod Words
 pub mod Files
 pub mod Terminal
 pub mod Hart
@@ -13,3 +12,10 @@ pub mod Rounds
 pub mod Report
 pub mod Board
 pub mod Example
+pub use Rattle.hv_machine.specs.Machine
+pub use Rattle.hv_machine.specs.Merging
+pub use Rattle.hv_machine.specs.Phases
+pub use Rattle.hv_event.specs.Line
+pub use Rattle.hv_files.specs.FileMap
+pub use Rattle.hv_words.specs.Words
+pub use Rattle.hv_words.specs.Commands

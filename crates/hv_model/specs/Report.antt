@@ -1,5 +1,5 @@
 -- The report of a history: what each terminal shows, the states of the VCPUs, and the events.
-use Rattle.std.specs.Prelude.{ℕ, ◌==◌, Bool, if◌then◌else◌, Result, Ok, Err, List, [], ◌∷◌, ◌++◌, filter, length, codes}
+use Rattle.std.specs.Prelude.{ℕ, ◌==◌, Bool, if◌then◌else◌, Result, Ok, Err, List, [], ◌∷◌, ◌++◌, filter, length, codes, Option, None, Some, zero, suc}
 use Rattle.std.specs.Fmt.{decimal}
 use Rattle.std.specs.List.{flat_map}
 use Rattle.hv_event.specs.declared.event.ActorId.{ActorId}
@@ -9,9 +9,9 @@ use Rattle.hv_event.specs.declared.reply.Reply.{Reply}
 use Rattle.hv_event.specs.declared.reply.Reply.TheVariants as reply
 use Rattle.hv_event.specs.declared.reply.Refusal.{Refusal}
 use Rattle.hv_event.specs.Line.{event_text, refusal_text}
-use Rattle.hv_model.specs.Origin.{Origin, own_script, terminals}
-use Rattle.hv_model.specs.Words.{commands_of}
-use Rattle.hv_model.specs.Legal.{boot_commands}
+use Rattle.hv_model.specs.Origin.{Origin, terminals}
+use Rattle.hv_model.specs.Terminal.{TerminalState, Begun, begun, terminal_after}
+use Rattle.hv_model.specs.Legal.{terminal_at_start}
 
 -- A line is a text and a line feed.
 abbrev pub line : List ℕ → List ℕ
@@ -23,20 +23,49 @@ shown [] = 10 ∷ []
 shown (b ∷ []) = if b == 10 then b ∷ [] else b ∷ 10 ∷ []
 shown (b ∷ c ∷ bs) = b ∷ shown (c ∷ bs)
 
--- A command that is answered shows what it gives, and then that it is done; one that is refused shows why.
+-- Each name is shown on a line of its own.
+abbrev pub names_shown : List (List ℕ) → List ℕ
+names_shown names = flat_map line names
+
+-- A command that is done shows what it gives, and then that it is done; one that is refused shows why.
 abbrev pub answer_shown : {A : Type 0} → (A → List ℕ) → Result A Refusal → List ℕ
 answer_shown given (Ok a) = given a ++ line (codes "< ok")
 answer_shown given (Err why) = line (codes "< refused " ++ refusal_text why)
 
--- What a reply shows.
-abbrev pub reply_shown : Reply → List ℕ
-reply_shown (reply.Cat r) = answer_shown shown r
+-- A step that gives nothing to show shows nothing.
+abbrev pub nothing_shown : {A : Type 0} → A → List ℕ
+nothing_shown a = []
 
--- A terminal shows each command that it began, and what came of it.
-abbrev pub transcript : List (List ℕ) → List Event → List ℕ
-transcript [] es = []
-transcript (l ∷ ls) [] = []
-transcript (l ∷ ls) (e ∷ es) = line (codes "> " ++ l) ++ reply_shown e.reply ++ transcript ls es
+-- What the reply to a command shows.
+abbrev pub reply_shown : Reply → List ℕ
+reply_shown (reply.Bad why) = line (codes "< refused " ++ refusal_text why)
+reply_shown reply.Rest = line (codes "< ok")
+reply_shown (reply.Ls r) = answer_shown names_shown r
+reply_shown (reply.Cat r) = answer_shown shown r
+reply_shown (reply.Run r) = answer_shown nothing_shown r
+reply_shown (reply.Mkdir r) = answer_shown nothing_shown r
+reply_shown (reply.Rm r) = answer_shown nothing_shown r
+reply_shown (reply.Write r) = answer_shown nothing_shown r
+
+-- A line that is begun shows itself.
+abbrev pub begin_shown : ℕ → Option Begun → List ℕ
+begin_shown (suc n) b = []
+begin_shown zero None = []
+begin_shown zero (Some b) = line (codes "> " ++ b.line)
+
+-- A line that is done shows what came of it.
+abbrev pub end_shown : ℕ → Reply → List ℕ
+end_shown (suc n) r = []
+end_shown zero r = reply_shown r
+
+-- What an event of a terminal shows.
+abbrev pub event_shown : TerminalState → Event → List ℕ
+event_shown t e = begin_shown t.rests (begun t) ++ end_shown (terminal_after t e).rests e.reply
+
+-- A terminal's transcript is what its events show, one after the other.
+abbrev pub transcript : TerminalState → List Event → List ℕ
+transcript t [] = []
+transcript t (e ∷ es) = event_shown t e ++ transcript (terminal_after t e) es
 
 -- Whether an actor is this terminal.
 abbrev pub is_terminal : ℕ → ActorId → Bool
@@ -52,7 +81,7 @@ titled title (b ∷ bs) = title ++ b ∷ bs
 abbrev pub terminal_text : Origin → List Event → ℕ → List ℕ
 terminal_text O H t =
     titled (line (codes "term " ++ decimal t))
-    (transcript (boot_commands O t ++ commands_of (own_script O t)) (filter (λ e. is_terminal t e.actor) H))
+    (transcript (terminal_at_start O t) (filter (λ e. is_terminal t e.actor) H))
 
 -- The run's order is named by its word.
 abbrev pub order_text : Bool → List ℕ

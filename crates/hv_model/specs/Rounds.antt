@@ -7,18 +7,21 @@ use Rattle.hv_machine.specs.Phases.{IsTwoPart}
 use Rattle.hv_event.specs.declared.event.ActorId.{ActorId}
 use Rattle.hv_event.specs.declared.event.ActorId.TheVariants.{Hart, Terminal}
 use Rattle.hv_event.specs.declared.event.Event.{Event}
-use Rattle.hv_model.specs.Origin.{Origin, own_script, terminals}
+use Rattle.hv_model.specs.Origin.{Origin, terminals}
 use Rattle.hv_model.specs.Cell.{Actor, is_actor, rank_of}
 use Rattle.hv_model.specs.Entry.{Entry}
-use Rattle.hv_model.specs.Words.{commands_of}
-use Rattle.hv_model.specs.Terminal.{IsAtBootEnd}
+use Rattle.hv_model.specs.Terminal.{TerminalState, Scripts, next_in, IsAtBootEnd}
 use Rattle.hv_model.specs.Rules.{machine}
-use Rattle.hv_model.specs.Legal.{first, greatest_stamp, start, booted, begun, Legal}
+use Rattle.hv_model.specs.Legal.{first, greatest_stamp, start, own_at_start, booted, begun, Legal}
 
--- Whether no command is left.
-abbrev pub no_commands : List (List ℕ) → Bool
-no_commands [] = true
-no_commands (l ∷ ls) = false
+-- Whether no command is next.
+abbrev pub is_over : Option (List ℕ × Scripts) → Bool
+is_over None = true
+is_over (Some n) = false
+
+-- Whether a terminal's line is done and no command is left.
+abbrev pub terminal_has_ended : TerminalState → Bool
+terminal_has_ended t = (t.rests == 0) && (is_over (next_in t.boot) && is_over (next_in t.own))
 
 -- A round goes through the harts and then the terminals, by number.
 abbrev pub order_of : Origin → List ActorId
@@ -38,7 +41,7 @@ module _ (O : Origin) where
   -- An actor has ended where its program asks for nothing more.
   abbrev pub has_ended : State (machine O) → ActorId → Bool
   has_ended s (Hart h) = (s (Actor (Hart h))).value.turns == O.opening.turns
-  has_ended s (Terminal t) = no_commands (s (Actor (Terminal t))).value.boot && no_commands (s (Actor (Terminal t))).value.own
+  has_ended s (Terminal t) = terminal_has_ended (s (Actor (Terminal t))).value
 
   -- Whose turn it is: the first of those that are left in this round, or else the first of a new one.
   abbrev pub turn_of : State (machine O) → List ActorId → Option (ActorId × List ActorId)
@@ -57,7 +60,7 @@ module _ (O : Origin) where
     pub all : List Entry
     pub parts : IsTwoPart (machine O) is_actor first (start O) boot made
     pub boot_ended : IsAtBootEnd (booted O boot first).value
-    pub within : (booted O boot first).value.own ≡ commands_of (own_script O 0)
+    pub within : (booted O boot first).value.own ≡ own_at_start O 0
     pub turns : TakesTurns (begun O boot) [] made
     pub merged : IsMerged (machine O) rank_of (λ a. events_by (machine O) a (boot ++ made)) all
     pub events : map (λ e. e.event) all ≡ H

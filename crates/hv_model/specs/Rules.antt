@@ -23,7 +23,9 @@ Value (Actor (Terminal t)) = TerminalState
 
 -- The components that a step touches, in the order in which they are locked.
 abbrev pub components_of : Step → List CellId
-components_of (step.Cat s) = component.Files ∷ []
+components_of (step.Bad s) = []
+components_of (step.Rest s) = []
+components_of _ = component.Files ∷ []
 
 -- The components that an event touches, given the number of harts.
 abbrev pub components : ℕ → Event → Carry → List CellId
@@ -43,7 +45,7 @@ IsAllowedAt (Actor (Terminal t)) s e = TerminalAgrees s e
 abbrev pub apply_at : (x : Cell) → Value x → Entry → Value x
 apply_at (Component component.Files) m e = files_after m e.event.step e.carry
 apply_at (Actor (Hart h)) s e = s
-apply_at (Actor (Terminal t)) s e = terminal_after s e
+apply_at (Actor (Terminal t)) s e = terminal_after s e.event
 
 -- The rules don't depend on what a run begins with.
 abbrev pub rules : Rules

@@ -1,6 +1,6 @@
 //! Paths: lists of names.
-ghost use Rattle.std.specs.Prelude.{◌≡◌, ◌==◌, ◌++◌, ◌↔◌, [], ◌∷◌, List, ℕ, length, refl, Some, IsTrue, IfOk, OnOk, All, slice_get};
-ghost use Rattle.std.specs.Option.{option_copied};
+ghost use Rattle.std.specs.Prelude.{◌≡◌, ◌==◌, ◌++◌, ◌↔◌, ◌<◌, [], ◌∷◌, List, ℕ, length, refl, Some, IsSome, IsTrue, IfOk, OnOk, OnErr, All, slice_get};
+ghost use Rattle.std.specs.Option.{option_copied, option_to_list};
 ghost use Rattle.std.specs.Ordering.{nat_cmp};
 ghost use Rattle.std.specs.Cmp.Lexicographic.{pointwise, slice_cmp, nat_list_eq_equiv, nat_list_cmp_total, lists_equiv, lists_total, lists_ties, texts_ties};
 ghost use Rattle.std.specs.Cmp.{partial_equiv_from_equiv, partial_order_from_agreeing_total};
@@ -154,6 +154,23 @@ impl Path {
             Some(name) => Some(name.as_slice()),
             None => None,
         }
+    }
+
+    /// Adds a name at the end. At `Err` nothing has changed.
+    pub fn push(&mut self, name: Bytes) -> Result<(), AllocError>
+        ensures ok { OnOk result (self.new ≡ self.old ++ name ∷ []) }
+        ensures err { OnErr result (self.new ≡ self.old) }
+    {
+        self.names.push(name)?;
+        Ok(())
+    }
+
+    /// Takes the last name away.
+    pub fn pop(&mut self) -> Option<Bytes>
+        ensures names { self.old ≡ self.new ++ option_to_list result }
+        ensures some { IsSome result ↔ (0 < length self.old) }
+    {
+        self.names.pop()
     }
 
     /// Whether this path is a front of the other, or equal to it.

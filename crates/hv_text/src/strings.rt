@@ -39,6 +39,13 @@ impl Strings {
         Ok(())
     }
 
+    /// The texts as a slice.
+    pub fn as_slice(&self) -> &[Bytes]
+        ensures { result.now ≡ self.now }
+    {
+        &self.items
+    }
+
     /// How many texts there are.
     pub fn len(&self) -> usize
         ensures { result ≡ length self.now }

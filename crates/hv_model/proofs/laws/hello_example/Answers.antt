@@ -1,6 +1,8 @@
 -- The definitions compute.
-use Rattle.std.proofs.Common.{ℕ, ◌≡◌, ◌+◌, max, List, [], ◌∷◌, ◌++◌, codes, Ok, Err, map, refl, subst, ap, lit≤, lit<, arith, slice_index, slice_index_or, length}
+use Rattle.std.proofs.Common.{◌≤◌, ℕ, ◌≡◌, ◌+◌, max, List, [], ◌∷◌, ◌++◌, codes, Ok, map, refl, subst, ap, lit≤, lit<, arith, slice_index, slice_index_or, length}
 use Rattle.std.specs.Fmt.{digits}
+use Rattle.std.proofs.lemmas.List.Elements.{All-from_recursion}
+use Rattle.hv_event.specs.Line.{event_text}
 use Rattle.std.specs.List.{AllByRecursion}
 use Rattle.hv_machine.specs.Machine.{State, greatest, MayHappen, IsRun}
 use Rattle.hv_machine.specs.Phases.{IsTwoPart}
@@ -10,8 +12,10 @@ use Rattle.hv_event.specs.declared.reply.Reply.{Reply}
 use Rattle.hv_event.specs.declared.reply.Reply.TheVariants as reply
 use Rattle.hv_model.specs.Cell.{Component, is_actor}
 use Rattle.hv_model.specs.Entry.{Entry, nothing}
-use Rattle.hv_model.specs.Files.{load_files, read_file}
-use Rattle.hv_model.specs.Terminal.{IsAtEnd, IsCommandPath}
+use Rattle.hv_model.specs.Files.{load_files, read_file, answered}
+use Rattle.hv_words.specs.declared.command.Command.TheVariants as command
+use Rattle.hv_words.specs.Commands.{IsCommandPath, Gives}
+use Rattle.hv_model.specs.Terminal.{IsAtEnd}
 use Rattle.hv_model.specs.Rules.{machine, IsAllowedAt, footprint_of}
 use Rattle.hv_model.specs.Legal.{first, Leads, IsComplete, reached, start, begun}
 use Rattle.hv_model.specs.Example as example
@@ -26,6 +30,9 @@ command-path = record {
   short = lit≤ tt;
 }
 
+gives : Gives (codes "vfs cat /hello") (command.VfsCat (codes "hello" ∷ []))
+gives = record { printable = All-from_recursion (λ (b : ℕ). (32 ≤ b) × (b ≤ 126)) (codes "vfs cat /hello") ((lit≤ tt, lit≤ tt), ((lit≤ tt, lit≤ tt), ((lit≤ tt, lit≤ tt), ((lit≤ tt, lit≤ tt), ((lit≤ tt, lit≤ tt), ((lit≤ tt, lit≤ tt), ((lit≤ tt, lit≤ tt), ((lit≤ tt, lit≤ tt), ((lit≤ tt, lit≤ tt), ((lit≤ tt, lit≤ tt), ((lit≤ tt, lit≤ tt), ((lit≤ tt, lit≤ tt), ((lit≤ tt, lit≤ tt), ((lit≤ tt, lit≤ tt), tt)))))))))))))); arguments = codes "/hello" ∷ []; words_are = refl; fit = ((command-path, refl), tt) }
+
 leads : Leads example.origin example.history (reached example.origin (entry ∷ []) [])
 leads =
     record {
@@ -37,19 +44,31 @@ leads =
         in_range = (lit≤ tt, tt);
         parts = record {
           alone = (refl, tt);
-          boot_runs = (record { agreed = (record { index = refl; step = (command-path, refl); carry = refl }, (refl, tt)); stamped = refl }, tt);
+          boot_runs = (record { agreed = (record { index = refl; step = (Ok (command.VfsCat (codes "hello" ∷ [])), gives, (refl, tt)); carry = refl }, (refl, tt)); stamped = refl }, tt);
           later_runs = tt;
         };
         within = refl;
       };
-      state = record { ended = λ _. refl; unended = λ not_ended. absurd (not_ended refl) };
+      state = record { ended = λ _. refl; unended = λ not_ended. absurd (not_ended (record { rests = refl; boot = refl })) };
     }
 
-done : (count : ℕ) → IsAtEnd (record { count = count; boot = []; own = [] })
-done count = record { boot = refl; own = refl }
+ended : IsAtEnd (reached example.origin (entry ∷ []) [] first).value
+ended = record { rests = refl; boot = refl; own = refl }
 
 complete : IsComplete example.origin (reached example.origin (entry ∷ []) [])
-complete = record { terminals = (done 1, (done 0, (done 0, (done 0, tt)))); harts = (refl, (refl, tt)) }
+complete = record {
+  terminals = (
+    ended,
+    (
+      record { rests = refl; boot = refl; own = refl },
+      (
+        record { rests = refl; boot = refl; own = refl },
+        (record { rests = refl; boot = refl; own = refl }, tt),
+      ),
+    ),
+  );
+  harts = (refl, (refl, tt));
+}
 
 pub returns-clause-legal : goal.returns-clause-legal
 returns-clause-legal c = (reached example.origin (entry ∷ []) [], leads)
@@ -58,7 +77,7 @@ pub returns-clause-complete : goal.returns-clause-complete
 returns-clause-complete c = (reached example.origin (entry ∷ []) [], leads, complete)
 
 pub returns-clause-report : goal.returns-clause-report
-unfolding digits
+unfolding digits event_text
 returns-clause-report c = refl
 
 -- no history is legal whose first event may not happen at the start nor where all begin
@@ -80,7 +99,7 @@ module _ (wrong : Event) (never : (s : State (machine example.origin)) (e : Entr
 
 abbrev second_byte : Reply → ℕ
 second_byte (reply.Cat (Ok bytes)) = slice_index bytes 1
-second_byte (reply.Cat (Err r)) = 0
+second_byte _ = 0
 
 bytes-apart : reply.Cat (Ok (codes "ho" ++ 10 ∷ [])) ≡ reply.Cat (Ok (codes "hi" ++ 10 ∷ [])) → ⊥
 bytes-apart e = let bytes : ◌≡◌ {A = ℕ} 111 105 = ap second_byte e in omega arith
@@ -93,7 +112,7 @@ returns-clause-other_byte c = λ legal.
     let m = machine example.origin in
     let At : Event → Type 0 = λ v. let f : Entry = record { event = v; carry = e.carry } in AllByRecursion (λ x. IsAllowedAt x (s x).value f) (footprint_of 2 f) in
     let agreed : At example.other_byte = subst At is may.agreed in
-    let says : reply.Cat (Ok (codes "ho" ++ 10 ∷ [])) ≡ reply.Cat (read_file (s (Component component.Files)).value (codes "hello" ∷ [])) = agreed.1.0 in
+    let says : reply.Cat (Ok (codes "ho" ++ 10 ∷ [])) ≡ reply.Cat (answered (read_file (s (Component component.Files)).value (codes "hello" ∷ []))) = agreed.1.0 in
     bytes-apart (rw files at says))
     legal.1.boot legal.1.later runs.events runs.parts
 

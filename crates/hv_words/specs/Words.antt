@@ -1,41 +1,41 @@
--- The lines of a script, and the words of a line.
+-- The words of a line, and the lines of a script that are commands.
 use Rattle.std.specs.Prelude.{ℕ, ◌==◌, not, ◌||◌, Bool, true, false, if◌then◌else◌, List, [], ◌∷◌, filter}
-use Rattle.std.specs.Str.Lines.{lines}
+use Rattle.hv_text.specs.Lines.{script_lines}
 
--- Whether there are no bytes.
+-- whether there are no bytes
 abbrev pub is_empty : List ℕ → Bool
 is_empty [] = true
 is_empty (b ∷ bs) = false
 
--- A byte is put before the first piece.
+-- a byte is put before the first piece
 abbrev pub onto_first : ℕ → List (List ℕ) → List (List ℕ)
 onto_first b [] = (b ∷ []) ∷ []
 onto_first b (p ∷ ps) = (b ∷ p) ∷ ps
 
--- The pieces of a line are what stands before, between and behind its spaces.
+-- the pieces of a line are what stands before, between and behind its spaces
 abbrev pub pieces : List ℕ → List (List ℕ)
 pieces [] = [] ∷ []
 pieces (b ∷ bs) = if b == 32 then [] ∷ pieces bs else onto_first b (pieces bs)
 
--- The words of a line are its pieces that aren't empty.
+-- the words of a line are its pieces that are not empty
 abbrev pub words : List ℕ → List (List ℕ)
 words line = filter (λ p. not (is_empty p)) (pieces line)
 
--- Whether words begin with a `#`.
+-- whether the first word begins with a `#`
 abbrev pub begins_comment : List (List ℕ) → Bool
 begins_comment [] = false
 begins_comment ([] ∷ ws) = false
 begins_comment ((b ∷ bs) ∷ ws) = b == 35
 
--- Whether there are no words.
+-- whether there are no words
 abbrev pub no_words : List (List ℕ) → Bool
 no_words [] = true
 no_words (w ∷ ws) = false
 
--- A line is skipped where it is blank or begins, behind spaces, with a `#`.
+-- a line is skipped where it is blank or begins, behind spaces, with a `#`
 abbrev pub is_skipped : List ℕ → Bool
 is_skipped line = no_words (words line) || begins_comment (words line)
 
--- The commands of a script are its lines that aren't skipped.
+-- the commands of a script are its lines that are not skipped
 abbrev pub commands_of : List ℕ → List (List ℕ)
-commands_of script = filter (λ l. not (is_skipped l)) (lines script)
+commands_of script = filter (λ l. not (is_skipped l)) (script_lines script)
