@@ -1,0 +1,2 @@
+pub use Rattle.hv_dtree.specs.Nodes
+pub mod Printed

@@ -1,0 +1,7 @@
+//! Device tree source.
+#![tactic(auto)]
+
+mod print;
+mod print_line;
+
+pub use print::print_dts;
