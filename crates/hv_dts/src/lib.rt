@@ -3,5 +3,7 @@
 
 mod print;
 mod print_line;
+#[cfg(test)]
+mod tests;
 
 pub use print::print_dts;

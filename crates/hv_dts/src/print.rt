@@ -11,9 +11,15 @@ use std::alloc::{AllocError, Global};
 pub fn print_dts(alloc: Global, tree: &Tree) -> Result<Bytes, AllocError>
     ensures { IfOk result (λ text. text ≡ tree_text tree.now) }
 {
+    print_root(alloc, tree.root())
+}
+
+/// The text of the tree of a root. It takes no stack by the depth.
+pub fn print_root(alloc: Global, root: &Node) -> Result<Bytes, AllocError>
+    ensures { IfOk result (λ text. text ≡ tree_text root.now) }
+{
     let mut out = Vec::new(alloc);
     out.extend_from_slice(b"/dts-v1/;\n\n")?;
-    let root = tree.root();
     push_head(&mut out, 0, root)?;
     // What is still to be printed of each open node's children, the innermost last.
     let mut stack: Vec<&[Node]> = Vec::new(alloc);

@@ -5,17 +5,16 @@ use Rattle.hv_dtree.specs.declared.node.Node.{Node}
 use Rattle.hv_dtree.specs.Nodes.{name_of, props_of}
 use Rattle.hv_dts.specs.Printed.{head_text}
 use Rattle.hv_dts.proofs.Printing.{IsPrinting, printing_root, printing_foot, printing_head, lighter_foot, lighter_head}
-use Rattle.hv_dts.proofs.print.print_dts.Goals as goal
+use Rattle.hv_dts.proofs.print.print_root.Goals as goal
 
 pub printing-init : goal.printing-init
 printing-init c =
-    let root = c.root-root.result.now in
+    let root = c.args.root.now in
     let start : List ℕ = codes "/dts-v1/;" ++ 10 ∷ 10 ∷ [] in
     let head = head_text 0 (name_of root) (props_of root) in
     let first = c.in_ok-extend_from_slice.ensures.items ∙ ap (λ (t : List ℕ). t ++ start) c.new-out.ensures.items in
     let one = c.in_ok-push.ensures.items ∙ ap (λ t. t ++ c.as_slice.result ∷ []) c.new-stack.ensures.items in
-    subst (IsPrinting c.push_head.new.out.items c.push.new.self.items) c.root-root.ensures.root
-    (printing_root root c.push_head.new.out.items start c.push.new.self.items c.as_slice.result refl (c.in_ok-push_head.ensures ∙ ap (λ (t : List ℕ). t ++ head) first) one c.as_slice.ensures)
+    printing_root root c.push_head.new.out.items start c.push.new.self.items c.as_slice.result refl (c.in_ok-push_head.ensures ∙ ap (λ (t : List ℕ). t ++ head) first) one c.as_slice.ensures
 
 pub printing-smaller-in-Continue-branch-6 : goal.printing-smaller-in-Continue-branch-6
 printing-smaller-in-Continue-branch-6 c =
@@ -27,7 +26,7 @@ printing-preserved-in-Continue-branch-6 c =
     let node = c.in-Some-split_first.node.now in
     let last = length c.pop.new.self.items in
     let depth : c.len.result ≡ last + 1 = omega (arith, c.len.ensures, c.in_ok-push-in-Some-split_first.ensures.len, c.pop.new.self.ok.0) in
-    printing_head c.args.tree.now c.printing.out.items c.push_head-in-Some-split_first.new.out.items c.printing.stack.items c.pop.new.self.items c.push-in-Some-split_first-2.new.self.items c.in-Some.nodes c.in-Some-split_first.rest c.as_slice-in-Some-split_first.result node last
+    printing_head c.args.root.now c.printing.out.items c.push_head-in-Some-split_first.new.out.items c.printing.stack.items c.pop.new.self.items c.push-in-Some-split_first-2.new.self.items c.in-Some.nodes c.in-Some-split_first.rest c.as_slice-in-Some-split_first.result node last
     c.printing.invariant c.in-Some.ensures.items c.in-Some-split_first.ensures.cases.0 refl c.as_slice-in-Some-split_first.ensures (c.in_ok-push-in-Some-split_first-2.ensures.items ∙ ap (λ t. t ++ c.as_slice-in-Some-split_first.result ∷ []) c.in_ok-push-in-Some-split_first.ensures.items)
     (c.in_ok-push_head-in-Some-split_first.ensures ∙ ap (λ (d : ℕ). c.printing.out.items ++ head_text d (name_of node) (props_of node)) depth)
 
@@ -36,5 +35,5 @@ printing-smaller c = lighter_foot c.printing.stack.items c.pop.new.self.items c.
 
 pub printing-preserved : goal.printing-preserved
 printing-preserved c =
-    printing_foot c.args.tree.now c.printing.out.items c.push_foot.new.out.items c.printing.stack.items c.pop.new.self.items c.in-Some.nodes c.len-in-None.result
+    printing_foot c.args.root.now c.printing.out.items c.push_foot.new.out.items c.printing.stack.items c.pop.new.self.items c.in-Some.nodes c.len-in-None.result
     c.printing.invariant c.in-Some.ensures.items (nil_from_length _ c.in-None.ensures.cases) (omega (arith, c.len-in-None.ensures, c.pop.new.self.ok.0)) c.in_ok-push_foot-in-None.ensures
