@@ -1,2 +1,4 @@
 pub use Rattle.hv_dtree.specs.Nodes
 pub mod Printed
+pub mod Source
+pub mod Steps

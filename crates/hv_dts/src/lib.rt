@@ -1,8 +1,11 @@
 //! Device tree source.
 #![tactic(auto)]
 
+mod grammar;
 mod print;
 mod print_line;
+mod step;
+mod symbol;
 #[cfg(test)]
 mod tests;
 
