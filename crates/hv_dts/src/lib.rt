@@ -2,11 +2,15 @@
 #![tactic(auto)]
 
 mod grammar;
+mod lexed;
 mod print;
 mod print_line;
 mod step;
 mod symbol;
+mod syntax;
+mod word;
 #[cfg(test)]
 mod tests;
 
 pub use print::print_dts;
+pub use syntax::{SyntaxRefusal, source_tokens};
