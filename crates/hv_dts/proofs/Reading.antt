@@ -1,12 +1,12 @@
 -- What may stand behind symbols that were read.
 use Rattle.std.proofs.Common.{◌≡◌, ◌≢◌, ℕ, zero, suc, ◌+◌, ◌<◌, ◌≤◌, List, [], ◌∷◌, ◌++◌, length, take, get_or, arith, append_assoc, refl, sym, ap, subst, ◌∙◌, inl, inr, Bool, true, false}
-use Rattle.std.specs.Prelude.{Option, Some, None, ◌⊎◌}
+use Rattle.std.specs.Prelude.{Some, None, ◌⊎◌}
 use Rattle.std.proofs.lemmas.List.{take_more, take_all, append-nil}
 use Rattle.hv_dts.specs.declared.symbol.Symbol.{Symbol}
 use Rattle.hv_dts.specs.declared.symbol.Symbol.TheVariants as on
 use Rattle.hv_dts.specs.declared.symbol.State.{State}
 use Rattle.hv_dts.specs.declared.symbol.State.TheVariants as at
-use Rattle.hv_dts.specs.Source.{SourceValue, cells, text, bytes, path, SourceProp, SourceNodes, none, more, labels_then, prop_name, node_name, cells_then, bytes_then, value_then, further_then, values_then, prop_then, props_then, nodes_then, IsSource, IsUnexpectedAt}
+use Rattle.hv_dts.specs.Source.{SourceValue, cells, text, bytes, path, SourceProp, SourceNodes, none, more, labels_then, prop_name, node_name, cells_then, bytes_then, value_then, further_then, values_then, props_then, nodes_then, IsSource, IsUnexpectedAt}
 use Rattle.hv_dts.specs.Steps.{Place, step}
 
 -- what closes a body in so many nodes below the root

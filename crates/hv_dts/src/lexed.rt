@@ -33,7 +33,10 @@ fn symbol_of(text: &[u8], token: Token) -> Symbol
     requires within { token.end ≤ length text.now }
     ensures { result ≡ symbol_of text.now token }
 {
-    kind_and_word(token.kind, text.split_at(token.end).0.split_at(token.start).1)
+    kind_and_word(
+        token.kind,
+        text.split_at(token.end).0.split_at(token.start).1,
+    )
 }
 
 /// The tokens of a text up to its end or to where no token stands.
@@ -53,8 +56,16 @@ pub fn lex(alloc: Global, text: &[u8]) -> Result<Lexed, AllocError>
                 at = token.end;
                 mode = mode_after(mode, token.kind);
             }
-            Ok(None) => return Ok(Lexed { tokens, symbols, bad: None }),
-            Err(bad) => return Ok(Lexed { tokens, symbols, bad: Some(bad.0) }),
+            Ok(None) => return Ok(Lexed {
+                tokens,
+                symbols,
+                bad: None,
+            }),
+            Err(bad) => return Ok(Lexed {
+                tokens,
+                symbols,
+                bad: Some(bad.0),
+            }),
         }
     }
 }

@@ -8,9 +8,9 @@ mod print_line;
 mod step;
 mod symbol;
 mod syntax;
-mod word;
 #[cfg(test)]
 mod tests;
+mod word;
 
 pub use print::print_dts;
 pub use syntax::{SyntaxRefusal, source_tokens};

@@ -44,15 +44,15 @@ fn refusal_at(text: &[u8], tokens: &[Token], place: usize, bad: Option<usize>) -
     }
 }
 
-/// The tokens of a text that is source by its grammar.
-pub fn source_tokens(alloc: Global, text: &[u8]) -> Result<Vec<Token>, SyntaxRefusal>
-    // What is read is a source.
+fn judged(alloc: Global, text: &[u8]) -> Result<Vec<Token>, SyntaxRefusal>
     ensures found { IfOk result (λ tokens. IsSourceText text.now tokens.items) }
-
-    // A refusal carries its offset.
     ensures refused { IfErr result (λ refusal. IsRefusal text.now refusal) }
 {
-    let Lexed { tokens, symbols, bad } = lex(alloc, text)?;
+    let Lexed {
+        tokens,
+        symbols,
+        bad,
+    } = lex(alloc, text)?;
     match first_unexpected(&symbols) {
         Some(place) => Err(refusal_at(text, &tokens, place, bad)),
         None => match bad {
@@ -60,4 +60,18 @@ pub fn source_tokens(alloc: Global, text: &[u8]) -> Result<Vec<Token>, SyntaxRef
             None => Ok(tokens),
         },
     }
+}
+
+/// The tokens of a text that is source by its grammar.
+pub fn source_tokens(alloc: Global, text: &[u8]) -> Result<Vec<Token>, SyntaxRefusal>
+    // What is read is a source.
+    ensures found { IfOk result (λ tokens. IsSourceText text.now tokens.items) }
+
+    // A source is read, unless memory runs out.
+    ensures only { (tokens : List Token) → IsSourceText text.now tokens → Reads result tokens }
+
+    // A refusal carries its offset.
+    ensures refused { IfErr result (λ refusal. IsRefusal text.now refusal) }
+{
+    judged(alloc, text)
 }

@@ -1,4 +1,4 @@
-use Rattle.hv_dts.proofs.Reading.{nodes_from_node, IsRead}
+use Rattle.hv_dts.proofs.Reading.{IsRead}
 use Rattle.hv_dts.proofs.grammar.first_unexpected.Given as goal
 
 abbrev pub invariant-loop-at : goal.invariant-loop-at

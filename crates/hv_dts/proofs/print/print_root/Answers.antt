@@ -1,10 +1,9 @@
-use Rattle.std.proofs.Common.{◌≡◌, ℕ, List, [], ◌∷◌, ◌++◌, ◌+◌, length, refl, sym, ap, subst, ◌∙◌, rules, arith}
+use Rattle.std.proofs.Common.{◌≡◌, ℕ, List, [], ◌∷◌, ◌++◌, ◌+◌, length, refl, ap, ◌∙◌, arith}
 use Rattle.std.specs.Prelude.{codes}
-use Rattle.std.proofs.lemmas.List.{nil_from_length, length_push}
-use Rattle.hv_dtree.specs.declared.node.Node.{Node}
+use Rattle.std.proofs.lemmas.List.{nil_from_length}
 use Rattle.hv_dtree.specs.Nodes.{name_of, props_of}
 use Rattle.hv_dts.specs.Printed.{head_text}
-use Rattle.hv_dts.proofs.Printing.{IsPrinting, printing_root, printing_foot, printing_head, lighter_foot, lighter_head}
+use Rattle.hv_dts.proofs.Printing.{printing_root, printing_foot, printing_head, lighter_foot, lighter_head}
 use Rattle.hv_dts.proofs.print.print_root.Goals as goal
 
 pub printing-init : goal.printing-init
