@@ -1,0 +1,5 @@
+pub mod Order
+pub mod Entries
+pub mod Folder
+pub mod Way
+pub mod Changes

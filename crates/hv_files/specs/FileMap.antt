@@ -6,17 +6,14 @@ use Rattle.std.specs.FinMap.{put, find}
 use Rattle.std.specs.List.{filter_map}
 use Rattle.std.specs.Option.{option_map}
 use Rattle.std.specs.Ordering.{nat_cmp, eq_by_cmp}
+pub use Rattle.hv_files.specs.declared.node.Node.{Node}
+pub use Rattle.hv_files.specs.declared.node.Node.TheVariants.{Folder, Holds}
 use Rattle.hv_files.specs.declared.refusal.FileRefusal.{FileRefusal}
 use Rattle.hv_files.specs.declared.refusal.FileRefusal.TheVariants.{NoEntry, NotDir, IsDir, Exists, NotEmpty}
 
 -- a list of names; the root is the empty list
 abbrev pub Path : Type 0
 Path = List (List ℕ)
-
--- a folder, or a file that holds these bytes
-pub data Node : Type 0 where
-  Folder : Node
-  Holds : List ℕ → Node
 
 -- each path with its node, by rising paths; the root is a folder and has no entry
 abbrev pub FileMap : Type 0

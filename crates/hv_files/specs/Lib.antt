@@ -1,2 +1,4 @@
 pub mod FileMap
 pub mod Example
+pub mod Tree
+pub mod Outcome

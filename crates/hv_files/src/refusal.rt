@@ -1,4 +1,6 @@
 //! Why a call on the files was refused.
+ghost use Rattle.std.specs.Prelude.{◌≡◌};
+
 use std::alloc::AllocError;
 
 /// Why a call on the files was refused.
@@ -16,4 +18,14 @@ pub enum FileRefusal {
     NotEmpty,
     /// Out of memory.
     Memory(AllocError),
+}
+
+impl From<AllocError> for FileRefusal {
+    ghost use Rattle.hv_files.specs.declared.refusal.FileRefusal.TheVariants.{Memory};
+
+    ghost from_gives = { λ error refusal. refusal ≡ Memory error };
+
+    fn from(error: AllocError) -> FileRefusal {
+        FileRefusal::Memory(error)
+    }
 }

@@ -1,5 +1,5 @@
 -- What a run begins with, and what the definitions read off it.
-use Rattle.std.specs.Prelude.{ℕ, ◌+◌, List, [], ◌∷◌, slice_get, unwrap_or}
+use Rattle.std.specs.Prelude.{ℕ, ◌+◌, nat_lt, if◌then◌else◌, List, [], ◌∷◌, slice_get, unwrap_or}
 use Rattle.hv_model.specs.declared.opening.Opening.{Opening}
 
 -- An origin is all that a run begins with.
@@ -14,9 +14,10 @@ origin_of o = record { opening = o }
 abbrev pub boot_script : Origin → List ℕ
 boot_script O = unwrap_or (slice_get O.opening.scripts 0) []
 
--- A terminal's own script stands behind the boot script, by the terminal's number.
+-- The own script of a terminal has its number among the scripts behind the first, and there are four terminals; one
+-- that isn't there is empty.
 abbrev pub own_script : Origin → ℕ → List ℕ
-own_script O t = unwrap_or (slice_get O.opening.scripts (t + 1)) []
+own_script O t = if nat_lt t 4 then unwrap_or (slice_get O.opening.scripts (t + 1)) [] else []
 
 -- There are four terminals.
 abbrev pub terminals : List ℕ

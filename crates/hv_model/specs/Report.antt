@@ -1,5 +1,5 @@
 -- The report of a history: what each terminal shows, the states of the VCPUs, and the events.
-use Rattle.std.specs.Prelude.{ℕ, ◌==◌, Bool, if◌then◌else◌, Result, Ok, Err, List, [], ◌∷◌, ◌++◌, filter, length, codes, Option, None, Some, zero, suc}
+use Rattle.std.specs.Prelude.{ℕ, ◌==◌, Bool, if◌then◌else◌, Result, Ok, Err, List, [], ◌∷◌, ◌++◌, filter, length, codes, Option, None, Some, zero, suc, ◌-◌, slice_index}
 use Rattle.std.specs.Fmt.{decimal}
 use Rattle.std.specs.List.{flat_map}
 use Rattle.hv_event.specs.declared.event.ActorId.{ActorId}
@@ -17,20 +17,23 @@ use Rattle.hv_model.specs.Legal.{terminal_at_start}
 abbrev pub line : List ℕ → List ℕ
 line text = text ++ 10 ∷ []
 
--- Bytes are shown as they are, with a line feed at their end where that is missing.
-abbrev pub shown : List ℕ → List ℕ
-shown [] = 10 ∷ []
-shown (b ∷ []) = if b == 10 then b ∷ [] else b ∷ 10 ∷ []
-shown (b ∷ c ∷ bs) = b ∷ shown (c ∷ bs)
+-- Bytes are shown as they are where the last one is a line feed, and else with a line feed behind them; so no bytes
+-- are shown as an empty line.
+unfoldable pub shown : List ℕ → List ℕ
+shown bytes = if slice_index bytes (length bytes - 1) == 10 then bytes else bytes ++ 10 ∷ []
 
 -- Each name is shown on a line of its own.
 abbrev pub names_shown : List (List ℕ) → List ℕ
 names_shown names = flat_map line names
 
--- A command that is done shows what it gives, and then that it is done; one that is refused shows why.
+-- A command that is refused shows why.
+abbrev pub refused_shown : Refusal → List ℕ
+refused_shown why = line (codes "< refused " ++ refusal_text why)
+
+-- A command that is done shows what it gives, and then that it is done.
 abbrev pub answer_shown : {A : Type 0} → (A → List ℕ) → Result A Refusal → List ℕ
 answer_shown given (Ok a) = given a ++ line (codes "< ok")
-answer_shown given (Err why) = line (codes "< refused " ++ refusal_text why)
+answer_shown given (Err why) = refused_shown why
 
 -- A step that gives nothing to show shows nothing.
 abbrev pub nothing_shown : {A : Type 0} → A → List ℕ
@@ -38,7 +41,7 @@ nothing_shown a = []
 
 -- What the reply to a command shows.
 abbrev pub reply_shown : Reply → List ℕ
-reply_shown (reply.Bad why) = line (codes "< refused " ++ refusal_text why)
+reply_shown (reply.Bad why) = refused_shown why
 reply_shown reply.Rest = line (codes "< ok")
 reply_shown (reply.Ls r) = answer_shown names_shown r
 reply_shown (reply.Cat r) = answer_shown shown r

@@ -1,5 +1,5 @@
 -- A terminal's program: it makes the steps of the commands of its scripts, one line after the other.
-use Rattle.std.specs.Prelude.{◌≡◌, ◌≢◌, ℕ, zero, suc, ◌+◌, ◌-◌, Bool, nat_le, MatchBool, Option, None, Some, Result, Ok, Err, List, [], ◌∷◌, length}
+use Rattle.std.specs.Prelude.{◌≡◌, ◌≢◌, ℕ, zero, suc, ◌+◌, ◌-◌, Bool, nat_le, Option, None, Some, Result, Ok, Err, List, [], ◌∷◌, length}
 use Rattle.hv_text.specs.Lines.{script_lines}
 use Rattle.hv_text.specs.Number.{number_of}
 use Rattle.hv_text.specs.declared.number.NumberRefusal.{NumberRefusal}
@@ -90,20 +90,23 @@ most_scripts = 4
 abbrev pub most_lines : ℕ
 most_lines = 10000
 
--- A script that is run is too deep exactly where four scripts are open, and else too long exactly where all lines
--- that the terminal opened, with the script's own, are more than may be.
-abbrev pub MayRun : Bool → ℕ → Option ℕ → Result (List ℕ) Refusal → Type 0
-MayRun Bool.true lines found r = r ≡ Err refusal.TooDeep
-MayRun Bool.false lines None r = r ≢ Err refusal.TooDeep
-MayRun Bool.false lines (Some n) r =
-    MatchBool (nat_le (lines + n) most_lines)
-    (r ≡ Err refusal.TooLong)
-    ((r ≢ Err refusal.TooDeep) × (r ≢ Err refusal.TooLong))
+-- A script that is not too deep is too long exactly where all lines that the terminal opened, with its own, are more
+-- than may be; `fits` says that they are not.
+abbrev pub LengthAnswers : Bool → Result (List ℕ) Refusal → Type 0
+LengthAnswers Bool.true r = (r ≢ Err refusal.TooDeep) × (r ≢ Err refusal.TooLong)
+LengthAnswers Bool.false r = r ≡ Err refusal.TooLong
+
+-- What the terminal says of the reply to a run: it is TooDeep exactly where four scripts are open, and else its length
+-- decides, where a script was found with its number of lines.
+abbrev pub RunAnswers : Bool → ℕ → Option ℕ → Result (List ℕ) Refusal → Type 0
+RunAnswers Bool.true lines found r = r ≡ Err refusal.TooDeep
+RunAnswers Bool.false lines None r = r ≢ Err refusal.TooDeep
+RunAnswers Bool.false lines (Some n) r = LengthAnswers (nat_le (lines + n) most_lines) r
 
 -- The terminal decides the reply of a step that touches no component, and whether a script may be run.
 abbrev pub TerminalReplies : Begun → ℕ → Step → Reply → Carry → Type 0
 TerminalReplies b lines (step.Rest _) r c = r ≡ reply.Rest
-TerminalReplies b lines (step.Run _) (reply.Run r) c = MayRun (nat_le most_scripts (length (scripts_of b))) lines c.lines r
+TerminalReplies b lines (step.Run _) (reply.Run r) c = RunAnswers (nat_le most_scripts (length (scripts_of b))) lines c.lines r
 TerminalReplies b lines (step.Run _) _ c = ⊥
 TerminalReplies b lines _ r c = Unit {0}
 

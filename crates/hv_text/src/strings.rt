@@ -30,6 +30,13 @@ impl Strings {
         })
     }
 
+    /// These texts.
+    pub fn from_vec(items: Vec<Bytes>) -> Strings
+        ensures { result ≡ items.items }
+    {
+        Strings { items }
+    }
+
     /// Adds a text at the end. At `Err` nothing has changed, and the text is given up.
     pub fn push(&mut self, item: Bytes) -> Result<(), AllocError>
         ensures ok { OnOk result (self.new ≡ self.old ++ item ∷ []) }

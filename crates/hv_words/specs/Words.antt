@@ -1,5 +1,5 @@
 -- The words of a line, and the lines of a script that are commands.
-use Rattle.std.specs.Prelude.{ℕ, ◌==◌, not, ◌||◌, Bool, true, false, if◌then◌else◌, List, [], ◌∷◌, filter}
+use Rattle.std.specs.Prelude.{◌≢◌, ℕ, ◌==◌, not, ◌||◌, Bool, true, false, if◌then◌else◌, List, [], ◌∷◌, filter}
 use Rattle.hv_text.specs.Lines.{script_lines}
 
 -- whether there are no bytes
@@ -39,3 +39,8 @@ is_skipped line = no_words (words line) || begins_comment (words line)
 -- the commands of a script are its lines that are not skipped
 abbrev pub commands_of : List ℕ → List (List ℕ)
 commands_of script = filter (λ l. not (is_skipped l)) (script_lines script)
+
+-- a text is empty or begins with a byte of a word
+abbrev pub StartsWord : List ℕ → Type 0
+StartsWord [] = Unit {0}
+StartsWord (b ∷ bs) = b ≢ 32

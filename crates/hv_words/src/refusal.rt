@@ -1,5 +1,8 @@
 //! Why a line gives no command.
-use std::alloc::AllocError;
+ghost use Rattle.std.specs.Prelude.{◌≡◌};
+ghost use Rattle.hv_words.specs.declared.refusal.WordsRefusal.TheVariants.{Memory};
+
+use std::alloc::{AllocError, AllocFailed};
 use thiserror::Error;
 
 /// Why a line gives no command.
@@ -13,4 +16,20 @@ pub enum WordsRefusal {
     BadWords(usize),
     #[error("out of memory")]
     Memory(AllocError),
+}
+
+impl From<AllocError> for WordsRefusal {
+    ghost from_gives = { λ e refusal. refusal ≡ Memory e };
+
+    fn from(refused: AllocError) -> WordsRefusal {
+        WordsRefusal::Memory(refused)
+    }
+}
+
+impl<T: Drop> From<AllocFailed<T>> for WordsRefusal {
+    ghost from_gives = { λ _ refusal. (e : _) × (refusal ≡ Memory e) };
+
+    fn from(_: AllocFailed<T>) -> WordsRefusal {
+        WordsRefusal::Memory(AllocError)
+    }
 }

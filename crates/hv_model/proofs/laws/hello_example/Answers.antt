@@ -3,6 +3,7 @@ use Rattle.std.proofs.Common.{◌≤◌, ℕ, ◌≡◌, ◌+◌, max, List, [],
 use Rattle.std.specs.Fmt.{digits}
 use Rattle.std.proofs.lemmas.List.Elements.{All-from_recursion}
 use Rattle.hv_event.specs.Line.{event_text}
+use Rattle.hv_model.specs.Report.{shown}
 use Rattle.std.specs.List.{AllByRecursion}
 use Rattle.hv_machine.specs.Machine.{State, greatest, MayHappen, IsRun}
 use Rattle.hv_machine.specs.Phases.{IsTwoPart}
@@ -77,7 +78,7 @@ pub returns-clause-complete : goal.returns-clause-complete
 returns-clause-complete c = (reached example.origin (entry ∷ []) [], leads, complete)
 
 pub returns-clause-report : goal.returns-clause-report
-unfolding digits event_text
+unfolding digits event_text shown
 returns-clause-report c = refl
 
 -- no history is legal whose first event may not happen at the start nor where all begin

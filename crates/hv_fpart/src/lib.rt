@@ -1,0 +1,117 @@
+//! The files' part of a step: its change of the file tree, and its reply.
+#![tactic(auto)]
+
+ghost use Rattle.std.specs.Prelude.{◌≡◌, ◌<◌, length, IfOk, OnOk, OnErr, Ok, map};
+ghost use Rattle.hv_model.specs.Entry.{nothing};
+ghost use Rattle.hv_model.specs.Files.{FilesAgree, files_after, answered, done, changed};
+ghost use Rattle.hv_files.specs.FileMap.{read_file, list_folder, made_folder, with_file, without};
+ghost use Rattle.hv_fpart.specs.Part.{IsFilesStep, IsShownAs};
+
+use hv_event::{Refusal, Reply, Step};
+use hv_files::{FileRefusal, FileTree};
+use hv_text::{Bytes, Path, Strings};
+use std::alloc::{AllocError, Global};
+
+/// A refusal of the files as a reply shows it, or want of memory.
+fn shown(refusal: FileRefusal) -> Result<Refusal, AllocError>
+    ensures { IfOk result (λ why. IsShownAs refusal why) }
+{
+    match refusal {
+        FileRefusal::NoEntry => Ok(Refusal::NoEntry),
+        FileRefusal::NotDir => Ok(Refusal::NotDir),
+        FileRefusal::IsDir => Ok(Refusal::IsDir),
+        FileRefusal::Exists => Ok(Refusal::Exists),
+        FileRefusal::NotEmpty => Ok(Refusal::NotEmpty),
+        FileRefusal::Memory(error) => Err(error),
+    }
+}
+
+fn listed(files: &FileTree, path: &Path) -> Result<Result<Strings, Refusal>, AllocError>
+    ensures { IfOk result (λ answer. answer ≡ answered (list_folder files.now path.now)) }
+{
+    match files.list(path) {
+        Ok(names) => Ok(Ok(Strings::from_vec(names))),
+        Err(refusal) => Ok(Err(shown(refusal)?)),
+    }
+}
+
+/// The bytes of a file, copied, or why there are none.
+pub fn read_part(
+    alloc: Global,
+    files: &FileTree,
+    path: &Path,
+) -> Result<Result<Bytes, Refusal>, AllocError>
+    ensures { IfOk result (λ answer. answer ≡ answered (read_file files.now path.now)) }
+{
+    match files.get(path) {
+        Ok(bytes) => Ok(Ok(Bytes::from_vec(Vec::from_slice(alloc, bytes)?))),
+        Err(refusal) => Ok(Err(shown(refusal)?)),
+    }
+}
+
+fn folder_made(files: &mut FileTree, path: &Path) -> Result<Result<(), Refusal>, AllocError>
+    requires { 0 < length path.now }
+    ensures answer { IfOk result (λ answer. answer ≡ done (made_folder files.old path.now)) }
+    ensures after { OnOk result (files.new ≡ changed files.old (made_folder files.old path.now)) }
+    ensures err { OnErr result (files.new ≡ files.old) }
+{
+    match files.mkdir(path) {
+        Ok(()) => Ok(Ok(())),
+        Err(refusal) => Ok(Err(shown(refusal)?)),
+    }
+}
+
+fn removed(files: &mut FileTree, path: &Path) -> Result<Result<(), Refusal>, AllocError>
+    requires { 0 < length path.now }
+    ensures answer { IfOk result (λ answer. answer ≡ done (without files.old path.now)) }
+    ensures after { OnOk result (files.new ≡ changed files.old (without files.old path.now)) }
+    ensures err { OnErr result (files.new ≡ files.old) }
+{
+    match files.remove(path) {
+        Ok(()) => Ok(Ok(())),
+        Err(refusal) => Ok(Err(shown(refusal)?)),
+    }
+}
+
+fn written(
+    files: &mut FileTree,
+    path: &Path,
+    bytes: Bytes,
+) -> Result<Result<(), Refusal>, AllocError>
+    requires { 0 < length path.now }
+    ensures answer { IfOk result (λ answer.
+        answer ≡ done (with_file files.old path.now bytes)) }
+    ensures after { OnOk result (
+        files.new ≡ changed files.old (with_file files.old path.now bytes)) }
+    ensures err { OnErr result (files.new ≡ files.old) }
+{
+    match files.put(path, bytes) {
+        Ok(()) => Ok(Ok(())),
+        Err(refusal) => Ok(Err(shown(refusal)?)),
+    }
+}
+
+/// Makes the change of a step on the files, and gives the reply that they give to it. At `Err`
+/// the files are as before.
+pub fn files_part(
+    alloc: Global,
+    files: &mut FileTree,
+    step: &Step,
+) -> Result<Reply, AllocError>
+    requires { IsFilesStep step.now }
+    ensures reply { IfOk result (λ reply. FilesAgree files.old step.now reply nothing) }
+    ensures after { OnOk result (files.new ≡ files_after files.old step.now nothing) }
+    ensures err { OnErr result (files.new ≡ files.old) }
+{
+    match step {
+        Step::Ls(ls) => Ok(Reply::Ls(listed(files, &ls.path)?)),
+        Step::Cat(cat) => Ok(Reply::Cat(read_part(alloc, files, &cat.path)?)),
+        Step::Mkdir(mkdir) => Ok(Reply::Mkdir(folder_made(files, &mkdir.path)?)),
+        Step::Rm(rm) => Ok(Reply::Rm(removed(files, &rm.path)?)),
+        Step::Write(write) => {
+            let bytes = write.bytes.clone()?;
+            Ok(Reply::Write(written(files, &write.path, bytes)?))
+        }
+        Step::Bad(_) | Step::Rest(_) | Step::Run(_) => unreachable!(),
+    }
+}

@@ -1,0 +1,79 @@
+-- One step of a terminal over the files.
+use Rattle.std.specs.Prelude.{◌≡◌, ℕ, ◌+◌, ◌^◌, max, Option, Some, None, Result, Ok, Err, List}
+use Rattle.hv_event.specs.declared.event.ActorId.TheVariants as actor
+use Rattle.hv_event.specs.declared.step.Step.{Step}
+use Rattle.hv_event.specs.declared.step.Step.TheVariants as step
+use Rattle.hv_event.specs.declared.reply.Reply.{Reply}
+use Rattle.hv_model.specs.declared.entry.Entry.{Entry}
+use Rattle.hv_model.specs.Files.{FilesAgree, files_after}
+use Rattle.hv_event.specs.declared.reply.Refusal.{Refusal}
+use Rattle.hv_event.specs.declared.reply.Refusal.TheVariants as refusal
+use Rattle.hv_words.specs.declared.command.Command.{Command}
+use Rattle.hv_words.specs.Commands.{Gives, IsNoCommand, HasBadWord}
+use Rattle.hv_model.specs.Terminal.{TerminalAgrees, terminal_after, begun, step_of}
+use Rattle.hv_rounds.specs.declared.stop.Stop.{Stop}
+use Rattle.hv_rounds.specs.declared.stop.Stop.TheVariants as stop
+use Rattle.hv_rounds.specs.declared.files.FileCell.{FileCell}
+use Rattle.hv_rounds.specs.declared.terminal.Terminal.{Terminal}
+use Rattle.hv_rounds.specs.Cells.{value_of}
+
+-- the files agree to the step, change by it and take its stamp, which is one more than theirs and the terminal's
+pub record TouchesFiles (old new : FileCell) (own : ℕ) (e : Entry) : Type 0 where
+  pub agrees : FilesAgree old.tree e.event.step e.event.reply e.carry
+  pub after : new.tree ≡ files_after old.tree e.event.step e.carry
+  pub stamp : new.stamp ≡ e.event.stamp
+  pub next : e.event.stamp ≡ max own old.stamp + 1
+
+-- the files stay, and the step's stamp is one more than the terminal's
+pub record LeavesFiles (old new : FileCell) (own : ℕ) (e : Entry) : Type 0 where
+  pub same : new ≡ old
+  pub next : e.event.stamp ≡ own + 1
+
+-- what a step does to the files, by its kind
+abbrev pub FilesPart : Step → FileCell → FileCell → ℕ → Entry → Type 0
+FilesPart (step.Bad s) old new own e = LeavesFiles old new own e
+FilesPart (step.Rest s) old new own e = LeavesFiles old new own e
+FilesPart _ old new own e = TouchesFiles old new own e
+
+-- an entry is the terminal's next step, and the terminal and the files are as it leaves them
+pub record IsStep (files files' : FileCell) (t t' : Terminal) (e : Entry) : Type 0 where
+  pub actor : e.event.actor ≡ actor.Terminal t.number
+  pub number : t'.number ≡ t.number
+  pub agrees : TerminalAgrees (value_of t) e
+  pub after : value_of t' ≡ terminal_after (value_of t) e.event
+  pub stamp : t'.stamp ≡ e.event.stamp
+  pub files : FilesPart e.event.step files files' t.stamp e
+
+-- the entry of an event of this terminal
+abbrev pub Makes : ℕ → ℕ → ℕ → Step → Reply → Option ℕ → Entry → Type 0
+Makes number index stamp step reply lines e =
+    e ≡ record {
+      event = record { actor = actor.Terminal number; index = index; stamp = stamp; step = step; reply = reply };
+      carry = record { lines = lines };
+    }
+
+-- the terminal t has begun its next command, whose line this is, and is then t'
+pub record IsBegun (t t' : Terminal) (line : List ℕ) : Type 0 where
+  pub done : t.rests ≡ 0
+  pub command : begun (value_of t) ≡ Some (record { line = line; boot = t'.boot; own = t'.own })
+  pub number : t'.number ≡ t.number
+  pub count : t'.count ≡ t.count
+  pub stamp : t'.stamp ≡ t.stamp
+  pub rests : t'.rests ≡ 0
+  pub lines : t'.lines ≡ t.lines
+
+-- the line gives no command, and this is why
+abbrev pub IsBadLine : List ℕ → Refusal → Type 0
+IsBadLine line refusal.NoCommand = IsNoCommand line
+IsBadLine line (refusal.BadWords n) = HasBadWord line n
+IsBadLine line _ = ⊥
+
+-- a step is stopped by its stamp only where the greatest of two stamps is the last one
+abbrev pub SpentBy : {A : Type 0} → Result A Stop → ℕ → ℕ → Type 0
+SpentBy result one other = (n : ℕ) → result ≡ Err (stop.Spent n) → (n ≡ 2 ^ 62) × (max one other ≡ n)
+
+-- the line gives a command with this step
+pub record IsAsked (line : List ℕ) (s : Step) : Type 0 where
+  pub asked : Command
+  pub gives : Gives line asked
+  pub step_is : s ≡ step_of asked
