@@ -11,14 +11,18 @@ use crate::grammar::first_unexpected;
 use crate::lexed::{Lexed, lex};
 use hv_dtlex::Token;
 use std::alloc::{AllocError, Global};
+use thiserror::Error;
 
 /// Why a text is no source by its grammar.
-#[derive(Debug, Drop)]
+#[derive(Debug, Drop, Error)]
 pub enum SyntaxRefusal {
     /// The first byte at which no token stands.
+    #[error("no token at {0}")]
     BadToken(usize),
     /// The first token with which no source goes on, or the end.
+    #[error("unexpected token at {0}")]
     Unexpected(usize),
+    #[error("out of memory")]
     Memory(AllocError),
 }
 
