@@ -1,0 +1,4 @@
+pub mod Class
+pub mod Blank
+pub mod Values
+pub mod Tokens

@@ -1,0 +1,4 @@
+pub mod Strings
+pub mod Counts
+pub mod Numbers
+pub mod Nodes
