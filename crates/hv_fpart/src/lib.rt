@@ -93,11 +93,7 @@ fn written(
 
 /// Makes the change of a step on the files, and gives the reply that they give to it. At `Err`
 /// the files are as before.
-pub fn files_part(
-    alloc: Global,
-    files: &mut FileTree,
-    step: &Step,
-) -> Result<Reply, AllocError>
+pub fn files_part(alloc: Global, files: &mut FileTree, step: &Step) -> Result<Reply, AllocError>
     requires { IsFilesStep step.now }
     ensures reply { IfOk result (λ reply. FilesAgree files.old step.now reply nothing) }
     ensures after { OnOk result (files.new ≡ files_after files.old step.now nothing) }

@@ -84,8 +84,8 @@ boot-leads O boot all parts merged range within not_at_end =
     let later = found.later in
     let none : later ≡ [] =
     no-events m later (λ a.
-        append-cancel (events_by m a boot) (events_by m a later)
-        (sym (filter-append (λ e. m.same a (m.actor e)) boot later) ∙ ap (events_by m a) (sym found.whole) ∙ merged.whole a ∙ ap (events_by m a) (append-nothing boot))) in
+    append-cancel (events_by m a boot) (events_by m a later)
+    (sym (filter-append (λ e. m.same a (m.actor e)) boot later) ∙ ap (events_by m a) (sym found.whole) ∙ merged.whole a ∙ ap (events_by m a) (append-nothing boot))) in
     record {
       boot = boot;
       later = later;
