@@ -1,2 +1,6 @@
 pub mod Stacks
 pub mod Steps
+pub mod Boards
+pub mod Rounds
+pub mod Goes
+pub mod Phases

@@ -2,6 +2,8 @@ pub mod Stack
 pub mod Cells
 pub mod Answer
 pub mod Step
+pub mod Board
+pub mod Phase
 pub mod Outcome
 pub use Rattle.hv_model.specs.Legal
 pub use Rattle.hv_model.specs.Rounds

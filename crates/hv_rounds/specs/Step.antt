@@ -77,3 +77,7 @@ pub record IsAsked (line : List ℕ) (s : Step) : Type 0 where
   pub asked : Command
   pub gives : Gives line asked
   pub step_is : s ≡ step_of asked
+
+-- a step that is stopped by its stamp leaves the files
+abbrev pub KeepsFiles : {A : Type 0} → Result A Stop → FileCell → FileCell → Type 0
+KeepsFiles result old new = (n : ℕ) → result ≡ Err (stop.Spent n) → new ≡ old

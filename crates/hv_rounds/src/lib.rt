@@ -1,7 +1,9 @@
 //! Terminals that run their scripts in rounds over one file tree.
 #![tactic(auto)]
 
+mod board;
 mod files;
+mod phases;
 mod script;
 mod scripts;
 mod show;

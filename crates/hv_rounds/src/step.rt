@@ -6,7 +6,7 @@ ghost use Rattle.hv_model.specs.Rounds.{terminal_has_ended};
 ghost use Rattle.hv_fpart.specs.Part.{IsFilesStep};
 ghost use Rattle.hv_rounds.specs.declared.terminal.Terminal.{Terminal};
 ghost use Rattle.hv_rounds.specs.Cells.{value_of};
-ghost use Rattle.hv_rounds.specs.Step.{IsStep, IsBegun, IsAsked, IsBadLine, SpentBy};
+ghost use Rattle.hv_rounds.specs.Step.{IsStep, IsBegun, IsAsked, IsBadLine, SpentBy, KeepsFiles};
 
 use crate::files::FileCell;
 use crate::script::{RunAnswer, answer_run};
@@ -79,6 +79,7 @@ fn step_files(
     ensures ok { IfOk result (λ e. (t : Terminal) → IsBegun t terminal.old line.now
         → IsStep files.old files.new t terminal.new e) }
     ensures spent { SpentBy result terminal.old.stamp files.old.stamp }
+    ensures kept { KeepsFiles result files.old files.new }
     ensures shown { terminal.new.shown ≡ terminal.old.shown }
 {
     let stamp = next_stamp(terminal.stamp, files.stamp)?;
@@ -99,6 +100,7 @@ fn step_run(
     ensures ok { IfOk result (λ e. (t : Terminal) → IsBegun t terminal.old line.now
         → IsStep files.old files.new t terminal.new e) }
     ensures spent { SpentBy result terminal.old.stamp files.old.stamp }
+    ensures kept { KeepsFiles result files.old files.new }
     ensures shown { terminal.new.shown ≡ terminal.old.shown }
 {
     let stamp = next_stamp(terminal.stamp, files.stamp)?;
@@ -122,6 +124,7 @@ fn step_command(
     ensures ok { IfOk result (λ e. (t : Terminal) → IsBegun t terminal.old line.now
         → IsStep files.old files.new t terminal.new e) }
     ensures spent { SpentBy result terminal.old.stamp files.old.stamp }
+    ensures kept { KeepsFiles result files.old files.new }
     ensures shown { terminal.new.shown ≡ terminal.old.shown }
 {
     match command {
@@ -149,6 +152,7 @@ pub fn step_line(
     ensures ok { IfOk result (λ e. (t : Terminal) → IsBegun t terminal.old line
         → IsStep files.old files.new t terminal.new e) }
     ensures spent { SpentBy result terminal.old.stamp files.old.stamp }
+    ensures kept { KeepsFiles result files.old files.new }
     ensures shown { terminal.new.shown ≡ terminal.old.shown }
 {
     match read_command(alloc, line.as_slice()) {

@@ -4,7 +4,7 @@ ghost use Rattle.hv_model.specs.Terminal.{begun};
 ghost use Rattle.hv_model.specs.Rounds.{terminal_has_ended};
 ghost use Rattle.hv_model.specs.Report.{begin_shown, end_shown, event_shown};
 ghost use Rattle.hv_rounds.specs.Cells.{value_of};
-ghost use Rattle.hv_rounds.specs.Step.{IsStep, SpentBy};
+ghost use Rattle.hv_rounds.specs.Step.{IsStep, SpentBy, KeepsFiles};
 
 use crate::files::FileCell;
 use crate::show::{push_begun, push_reply};
@@ -48,6 +48,7 @@ fn step_begun(alloc: Global, files: &mut FileCell, terminal: &mut Terminal) -> R
     ensures shown { OnOk result (terminal.new.shown
         ≡ terminal.old.shown ++ begin_shown terminal.old.rests (begun (value_of terminal.old))) }
     ensures spent { SpentBy result terminal.old.stamp files.old.stamp }
+    ensures kept { KeepsFiles result files.old files.new }
 {
     let line = terminal.begin(alloc)?;
     terminal.show_begun(line.as_slice())?;
@@ -61,6 +62,7 @@ fn make_step(alloc: Global, files: &mut FileCell, terminal: &mut Terminal) -> Re
     ensures shown { OnOk result (terminal.new.shown
         ≡ terminal.old.shown ++ begin_shown terminal.old.rests (begun (value_of terminal.old))) }
     ensures spent { SpentBy result terminal.old.stamp files.old.stamp }
+    ensures kept { KeepsFiles result files.old files.new }
 {
     if terminal.rests > 0 {
         return rest_on(files, terminal);
@@ -79,6 +81,7 @@ pub fn take_step(
     ensures shown { IfOk result (λ e. terminal.new.shown
         ≡ terminal.old.shown ++ event_shown (value_of terminal.old) e.event) }
     ensures spent { SpentBy result terminal.old.stamp files.old.stamp }
+    ensures kept { KeepsFiles result files.old files.new }
 {
     let entry = make_step(alloc, files, terminal)?;
     terminal.show_end(alloc, &entry.event.reply)?;

@@ -1,0 +1,148 @@
+-- What was made so far, when one step more is made.
+use Rattle.std.proofs.Common.{◌≡◌, ◌≢◌, ℕ, zero, suc, ◌+◌, ◌<◌, ◌≤◌, max, Bool, true, false, eqb, eq-eqb, eqb-true, inl, inr, ◌⊎◌, Option, Some, None, List, [], ◌∷◌, ◌++◌, map, filter, cond, refl, ap, sym, subst, ◌∙◌, arith, append_assoc, length-append}
+use Rattle.std.specs.Prelude.{Any}
+use Rattle.std.specs.List.{AllByRecursion}
+use Rattle.std.proofs.lemmas.Bool.{ne_eqb}
+use Rattle.std.proofs.lemmas.List.Quantifiers.{Any-push}
+use Rattle.std.proofs.lemmas.List.{get_or_append_left}
+use Rattle.hv_machine.specs.Machine.{Machine, State, next_state, state_after, IsRun, MayHappen}
+use Rattle.hv_machine.proofs.Lists.{filter-append}
+use Rattle.hv_event.specs.declared.event.ActorId.TheVariants.{Terminal}
+use Rattle.hv_event.specs.declared.event.Event.{Event}
+use Rattle.hv_model.specs.declared.entry.Entry.{Entry}
+use Rattle.hv_model.specs.Origin.{Origin}
+use Rattle.hv_model.specs.Terminal.{TerminalState, terminal_after}
+use Rattle.hv_model.specs.Rules.{machine}
+use Rattle.hv_model.specs.Legal.{greatest_stamp, terminal_at_start}
+use Rattle.hv_model.specs.Report.{transcript, event_shown, is_terminal}
+use Rattle.hv_rounds.specs.declared.files.FileCell.{FileCell}
+use Rattle.hv_rounds.specs.declared.terminal.Terminal.{Terminal as TerminalCell}
+use Rattle.hv_rounds.specs.declared.board.Board.{Board}
+use Rattle.hv_rounds.specs.Cells.{value_of}
+use Rattle.hv_rounds.specs.Step.{IsStep, FilesPart}
+use Rattle.hv_rounds.specs.Board.{at, IsBoardStep, Holds, own_events, folded, ShownAt, IsHeld, Goes}
+use Rattle.hv_rounds.proofs.Boards.{may-happen, holds-next, part-of, Part, leaves, takes}
+
+module _ (m : Machine) where
+  pub run-push : (s : State m) (es : List m.Event) (e : m.Event) → IsRun m s es → MayHappen m (state_after m s es) e → IsRun m s (es ++ e ∷ [])
+  run-push s [] e run may = (may, tt)
+  run-push s (f ∷ es) e run may = (run.0, run-push (next_state m s f) es e run.1 may)
+
+  pub after-push : (s : State m) (es : List m.Event) (e : m.Event) → state_after m s (es ++ e ∷ []) ≡ next_state m (state_after m s es) e
+  after-push s [] e = refl
+  after-push s (f ∷ es) e = after-push (next_state m s f) es e
+
+pub all-push : {A : Type 0} (P : A → Type 0) (xs : List A) (x : A) → AllByRecursion P xs → P x → AllByRecursion P (xs ++ x ∷ [])
+all-push P [] x h p = (p, tt)
+all-push P (y ∷ xs) x h p = (h.0, all-push P xs x h.1 p)
+
+pub map-push : {A B : Type 0} (f : A → B) (xs : List A) (x : A) → map f (xs ++ x ∷ []) ≡ map f xs ++ f x ∷ []
+map-push f [] x = refl
+map-push f (y ∷ xs) x = ap (λ zs. f y ∷ zs) (map-push f xs x)
+
+folded-push : (t : TerminalState) (es : List Event) (e : Event) → folded t (es ++ e ∷ []) ≡ terminal_after (folded t es) e
+folded-push t [] e = refl
+folded-push t (f ∷ es) e = folded-push (terminal_after t f) es e
+
+transcript-push : (t : TerminalState) (es : List Event) (e : Event) → transcript t (es ++ e ∷ []) ≡ transcript t es ++ event_shown (folded t es) e
+transcript-push t [] e = append-none (event_shown t e)
+  where
+    append-none : (xs : List ℕ) → xs ++ [] ≡ [] ++ xs
+    append-none [] = refl
+    append-none (x ∷ xs) = ap (λ zs. x ∷ zs) (append-none xs)
+transcript-push t (f ∷ es) e =
+    ap (λ zs. event_shown t f ++ zs) (transcript-push (terminal_after t f) es e) ∙ sym (append_assoc (event_shown t f) (transcript (terminal_after t f) es) (event_shown (folded (terminal_after t f) es) e))
+
+own-push : (t : ℕ) (es : List Entry) (e : Entry) → own_events t (es ++ e ∷ []) ≡ own_events t es ++ filter (λ x. is_terminal t x.actor) (e.event ∷ [])
+own-push t es e = ap (filter (λ (x : Event). is_terminal t x.actor)) (map-push (λ (x : Entry). x.event) es e) ∙ filter-append (λ (x : Event). is_terminal t x.actor) (map (λ (x : Entry). x.event) es) (e.event ∷ [])
+
+kept-one : (p : Event → Bool) (e : Event) → p e ≡ true → filter p (e ∷ []) ≡ e ∷ []
+kept-one p e h = rw h refl
+
+kept-none : (p : Event → Bool) (e : Event) → p e ≡ false → filter p (e ∷ []) ≡ []
+kept-none p e h = rw h refl
+
+append-nothing : {A : Type 0} (xs : List A) → xs ++ [] ≡ xs
+append-nothing [] = refl
+append-nothing (x ∷ xs) = ap (λ zs. x ∷ zs) (append-nothing xs)
+
+-- the terminal of an event has shown one event more
+shown-own : (O : Origin) (t : ℕ) (es : List Entry) (e : Entry) (x x' : TerminalCell) → e.event.actor ≡ Terminal t → ShownAt O t es x
+    → value_of x' ≡ terminal_after (value_of x) e.event → x'.shown ≡ x.shown ++ event_shown (value_of x) e.event → ShownAt O t (es ++ e ∷ []) x'
+shown-own O t es e x x' is h after shown =
+    let start = terminal_at_start O t in
+    let own : own_events t (es ++ e ∷ []) ≡ own_events t es ++ e.event ∷ [] =
+    own-push t es e ∙ ap (λ zs. own_events t es ++ zs) (kept-one (λ y. is_terminal t y.actor) e.event (ap (is_terminal t) is ∙ eq-eqb t t refl)) in
+    record {
+      value = after ∙ ap (λ v. terminal_after v e.event) h.value ∙ sym (folded-push start (own_events t es) e.event) ∙ ap (folded start) (sym own);
+      shown = shown ∙ ap (λ zs. zs ++ event_shown (value_of x) e.event) h.shown ∙ ap (λ v. transcript start (own_events t es) ++ event_shown v e.event) h.value
+        ∙ sym (transcript-push start (own_events t es) e.event) ∙ ap (transcript start) (sym own);
+    }
+
+-- and each other one has not
+shown-other : (O : Origin) (t u : ℕ) (es : List Entry) (e : Entry) (x : TerminalCell) → e.event.actor ≡ Terminal t → u ≢ t → ShownAt O u es x → ShownAt O u (es ++ e ∷ []) x
+shown-other O t u es e x is apart h =
+    let start = terminal_at_start O u in
+    let own : own_events u (es ++ e ∷ []) ≡ own_events u es =
+    own-push u es e ∙ ap (λ zs. own_events u es ++ zs) (kept-none (λ y. is_terminal u y.actor) e.event (ap (is_terminal u) is ∙ ne_eqb u t apart)) ∙ append-nothing (own_events u es) in
+    record { value = h.value ∙ ap (folded start) (sym own); shown = h.shown ∙ ap (transcript start) (sym own) }
+
+Any-more : {A : Type 0} (P : A → Type 0) (xs : List A) (y : A) → Any P xs → Any P (xs ++ y ∷ [])
+Any-more {A} P xs y h =
+    let lt = h.2 in
+    (h.0, h.1, (let more = length-append {A = A} xs (y ∷ []) in omega arith), get_or_append_left xs (y ∷ []) h.1 h.0 h.2 ∙ h.3, h.4)
+
+held-more : (es : List Entry) (e : Entry) (n : ℕ) → IsHeld es n → IsHeld (es ++ e ∷ []) n
+held-more es e n (inl none) = inl none
+held-more es e n (inr some) = inr (Any-more (λ x. x.event.stamp ≡ n) es e some)
+
+held-here : (es : List Entry) (e : Entry) (n : ℕ) → n ≡ e.event.stamp → IsHeld (es ++ e ∷ []) n
+held-here es e n is = inr (Any-push (λ x. x.event.stamp ≡ n) es e (sym is))
+
+files-held-next : (es : List Entry) (old new : FileCell) (own : ℕ) (e : Entry) → FilesPart e.event.step old new own e → IsHeld es old.stamp → IsHeld (es ++ e ∷ []) new.stamp
+files-held-next es old new own e part h =
+    elim (part-of old new own e e.event.step part) [
+      | leaves untouched none l ↦ subst (λ (f : FileCell). IsHeld (es ++ e ∷ []) f.stamp) (sym l.same) (held-more es e old.stamp h)
+      | takes touched one l ↦ held-here es e new.stamp l.stamp
+    ]
+
+-- one step more
+pub goes-step : (O : Origin) (s : State (machine O)) (before made : List Entry) (b b' : Board) (t : ℕ) (e : Entry) (d : TerminalCell) → t < 4
+    → Goes O s before made b → IsBoardStep b b' t e → Goes O s before (made ++ e ∷ []) b'
+goes-step O s before made b b' t e d below goes step =
+    let m = machine O in
+    let at_end = state_after m s made in
+    let next : Holds O (next_state m at_end e) b' = holds-next O at_end b b' t e d below goes.holds step in
+    let actor_is = (step.step d).actor ∙ ap Terminal (goes.holds.numbers t d below) in
+    let whole : (before ++ made) ++ e ∷ [] ≡ before ++ (made ++ e ∷ []) = append_assoc before made (e ∷ []) in
+    let HoldsAt : State m → Type 0 = λ u. Holds O u b' in
+    record {
+      run = run-push m s made e goes.run (may-happen O at_end b b' t e d below goes.holds step);
+      holds = subst HoldsAt (sym (after-push m s made e)) next;
+      shown = λ u x lt.
+          let At : List Entry → Type 0 = λ es. ShownAt O u es (at b' u x) in
+          let Goal : Bool → Type 0 = λ same. eqb u t ≡ same → ShownAt O u ((before ++ made) ++ e ∷ []) (at b' u x) in
+          subst At whole (elim (eqb u t) as Goal [
+            | true ↦ λ same.
+                let is : u ≡ t = eqb-true u t same in
+                subst (λ (v : ℕ). ShownAt O v ((before ++ made) ++ e ∷ []) (at b' v x)) (sym is)
+                (shown-own O t (before ++ made) e (at b t x) (at b' t x) actor_is (goes.shown t x below) (step.step x).after (step.shown x))
+            | false ↦ λ apart.
+                let different : u ≢ t = λ same. (let there = eq-eqb u t same in absurd (cc)) in
+                subst (λ (y : TerminalCell). ShownAt O u ((before ++ made) ++ e ∷ []) y) (sym (step.others u x different))
+                (shown-other O t u (before ++ made) e (at b u x) actor_is different (goes.shown u x lt))
+          ] refl);
+      in_range = all-push (λ (x : Entry). x.event.stamp ≤ greatest_stamp) made e goes.in_range (let bounded = (at b' t d).stamp_bounded in let is = (step.step d).stamp in omega arith);
+      files_held = subst (λ (es : List Entry). IsHeld es b'.files.stamp) whole (files-held-next (before ++ made) b.files b'.files (at b t d).stamp e (step.step d).files goes.files_held);
+      held = λ u x lt.
+          let At : List Entry → Type 0 = λ es. IsHeld es (at b' u x).stamp in
+          let Goal : Bool → Type 0 = λ same. eqb u t ≡ same → IsHeld ((before ++ made) ++ e ∷ []) (at b' u x).stamp in
+          subst At whole (elim (eqb u t) as Goal [
+            | true ↦ λ same.
+                let is : u ≡ t = eqb-true u t same in
+                held-here (before ++ made) e (at b' u x).stamp (ap (λ (v : ℕ). (at b' v x).stamp) is ∙ (step.step x).stamp)
+            | false ↦ λ apart.
+                let different : u ≢ t = λ same. (let there = eq-eqb u t same in absurd (cc)) in
+                subst (λ (y : TerminalCell). IsHeld ((before ++ made) ++ e ∷ []) y.stamp) (sym (step.others u x different)) (held-more (before ++ made) e (at b u x).stamp (goes.held u x lt))
+          ] refl);
+    }

@@ -1,0 +1,11 @@
+use Rattle.std.proofs.Common.{◌-◌, ◌^◌, []}
+use Rattle.hv_model.specs.Origin.{Origin}
+use Rattle.hv_rounds.specs.Phase.{BootPart}
+use Rattle.hv_rounds.proofs.Phases.{stamp_at}
+use Rattle.hv_rounds.proofs.phases.run_boot.Given as goal
+
+abbrev pub invariant-boot : goal.invariant-boot
+invariant-boot l = (O : Origin) → BootPart O [] l.initial.board → BootPart O l.made.items l.board
+
+abbrev pub decreases-boot : goal.decreases-boot
+decreases-boot l = 2 ^ 62 - stamp_at l.board.terminals.items 0

@@ -1,0 +1,90 @@
+-- The cells of a run, and what they mean in the abstract machine.
+use Rattle.std.specs.Prelude.{◌≡◌, ◌≢◌, ◌⊎◌, ℕ, ◌+◌, ◌-◌, ◌<◌, ◌≤◌, ◌^◌, max, Bool, true, false, Option, Some, None, List, [], ◌∷◌, ◌++◌, map, filter, Any, slice_index_or}
+use Rattle.std.specs.List.{AllByRecursion}
+use Rattle.hv_machine.specs.Machine.{State, next_state, state_after, IsRun}
+use Rattle.hv_event.specs.declared.event.ActorId.{ActorId}
+use Rattle.hv_event.specs.declared.event.ActorId.TheVariants.{Hart, Terminal}
+use Rattle.hv_event.specs.declared.event.CellId.TheVariants as component
+use Rattle.hv_event.specs.declared.event.Event.{Event}
+use Rattle.hv_model.specs.declared.entry.Entry.{Entry}
+use Rattle.hv_model.specs.Origin.{Origin}
+use Rattle.hv_model.specs.Cell.{Component, Actor}
+use Rattle.hv_model.specs.Terminal.{TerminalState, terminal_after, IsAtBootEnd}
+use Rattle.hv_model.specs.Rules.{machine}
+use Rattle.hv_model.specs.Legal.{greatest_stamp, own_at_start, terminal_at_start}
+use Rattle.hv_model.specs.Rounds.{turn_of, terminal_has_ended}
+use Rattle.hv_model.specs.Report.{transcript, is_terminal, event_shown}
+use Rattle.hv_rounds.specs.declared.files.FileCell.{FileCell}
+use Rattle.hv_rounds.specs.declared.terminal.Terminal.{Terminal as TerminalCell}
+use Rattle.hv_rounds.specs.declared.board.Board.{Board}
+use Rattle.hv_rounds.specs.Cells.{value_of}
+use Rattle.hv_rounds.specs.Step.{IsStep}
+
+-- the terminal of a number, or d
+abbrev pub at : Board → ℕ → TerminalCell → TerminalCell
+at b t d = slice_index_or b.terminals.items t d
+
+-- one step of the terminal t: the others stay, and it shows what the event shows
+pub record IsBoardStep (b b' : Board) (t : ℕ) (e : Entry) : Type 0 where
+  pub step : (d : TerminalCell) → IsStep b.files b'.files (at b t d) (at b' t d) e
+  pub shown : (d : TerminalCell) → (at b' t d).shown ≡ (at b t d).shown ++ event_shown (value_of (at b t d)) e.event
+  pub others : (u : ℕ) (d : TerminalCell) → u ≢ t → at b' u d ≡ at b u d
+
+-- the board holds a state of the abstract machine
+pub record Holds (O : Origin) (s : State (machine O)) (b : Board) : Type 0 where
+  pub files : (s (Component component.Files)).value ≡ b.files.tree
+  pub files_stamp : (s (Component component.Files)).stamp ≡ b.files.stamp
+  pub terminals : (t : ℕ) (d : TerminalCell) → t < 4 → (s (Actor (Terminal t))).value ≡ value_of (at b t d)
+  pub stamps : (t : ℕ) (d : TerminalCell) → t < 4 → (s (Actor (Terminal t))).stamp ≡ (at b t d).stamp
+  pub numbers : (t : ℕ) (d : TerminalCell) → t < 4 → (at b t d).number ≡ t
+  pub harts : (h : ℕ) → (s (Actor (Hart h))).value ≡ record { count = 0; turns = 0 }
+
+-- the events of a terminal
+abbrev pub own_events : ℕ → List Entry → List Event
+own_events t es = filter (λ e. is_terminal t e.actor) (map (λ e. e.event) es)
+
+-- a terminal after events
+abbrev pub folded : TerminalState → List Event → TerminalState
+folded t [] = t
+folded t (e ∷ es) = folded (terminal_after t e) es
+
+-- a terminal has come as far as its events lead, and has shown what they show
+pub record ShownAt (O : Origin) (t : ℕ) (es : List Entry) (x : TerminalCell) : Type 0 where
+  pub value : value_of x ≡ folded (terminal_at_start O t) (own_events t es)
+  pub shown : x.shown ≡ transcript (terminal_at_start O t) (own_events t es)
+
+-- a stamp is none yet, or that of an event
+abbrev pub IsHeld : List Entry → ℕ → Type 0
+IsHeld es n = (n ≡ 0) ⊎ Any (λ e. e.event.stamp ≡ n) es
+
+-- what was made leads from a state to the board, with all events before it and these
+pub record Goes (O : Origin) (s : State (machine O)) (before made : List Entry) (b : Board) : Type 0 where
+  pub run : IsRun (machine O) s made
+  pub holds : Holds O (state_after (machine O) s made) b
+  pub shown : (t : ℕ) (d : TerminalCell) → t < 4 → ShownAt O t (before ++ made) (at b t d)
+  pub in_range : AllByRecursion (λ e. e.event.stamp ≤ greatest_stamp) made
+  pub files_held : IsHeld (before ++ made) b.files.stamp
+  pub held : (t : ℕ) (d : TerminalCell) → t < 4 → IsHeld (before ++ made) (at b t d).stamp
+
+-- the last stamp was found by a step of some terminal
+pub record FoundLast (b : Board) (n : ℕ) : Type 0 where
+  pub last : n ≡ greatest_stamp
+  pub terminal : ℕ
+  pub is_one : terminal < 4
+  pub found : (d : TerminalCell) → max (at b terminal d).stamp b.files.stamp ≡ n
+
+-- terminals from one number on have ended
+abbrev pub EndedFrom : Board → ℕ → Type 0
+EndedFrom b from = (k : ℕ) (d : TerminalCell) → from ≤ k → k < 4 → terminal_has_ended (value_of (at b k d)) ≡ true
+
+-- the terminal t is the first from one number on that has not ended
+pub record OpenFrom (b : Board) (from t : ℕ) : Type 0 where
+  pub within : t < 4
+  pub low : from ≤ t
+  pub open_here : (d : TerminalCell) → terminal_has_ended (value_of (at b t d)) ≡ false
+  pub before : (k : ℕ) (d : TerminalCell) → from ≤ k → k < t → terminal_has_ended (value_of (at b k d)) ≡ true
+
+-- whose turn it is behind the terminals below a number: the first from there on, or else the first of all
+abbrev pub IsTurn : Board → ℕ → Option ℕ → Type 0
+IsTurn b from None = EndedFrom b from × EndedFrom b 0
+IsTurn b from (Some t) = OpenFrom b from t ⊎ (EndedFrom b from × OpenFrom b 0 t)
