@@ -3,4 +3,4 @@ pub mod Steps
 pub mod Boards
 pub mod Rounds
 pub mod Goes
-pub mod Phases
+pub mod PhaseLemmas

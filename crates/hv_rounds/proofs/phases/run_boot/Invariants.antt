@@ -1,7 +1,7 @@
 use Rattle.std.proofs.Common.{◌-◌, ◌^◌, []}
 use Rattle.hv_model.specs.Origin.{Origin}
 use Rattle.hv_rounds.specs.Phase.{BootPart}
-use Rattle.hv_rounds.proofs.Phases.{stamp_at}
+use Rattle.hv_rounds.proofs.PhaseLemmas.{stamp_at}
 use Rattle.hv_rounds.proofs.phases.run_boot.Given as goal
 
 abbrev pub invariant-boot : goal.invariant-boot

@@ -4,7 +4,7 @@ use Rattle.hv_model.specs.declared.entry.Entry.{Entry}
 use Rattle.hv_model.specs.Origin.{Origin}
 use Rattle.hv_model.specs.Rules.{machine}
 use Rattle.hv_rounds.specs.Board.{Goes}
-use Rattle.hv_rounds.proofs.Phases.{RoundsGo, total}
+use Rattle.hv_rounds.proofs.PhaseLemmas.{RoundsGo, total}
 use Rattle.hv_rounds.proofs.phases.run_rounds.Given as goal
 
 abbrev pub invariant-rounds : goal.invariant-rounds

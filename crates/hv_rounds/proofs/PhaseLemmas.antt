@@ -2,6 +2,7 @@
 use Rattle.std.proofs.Common.{◌≡◌, ◌≢◌, ℕ, zero, suc, ◌+◌, ◌-◌, ◌*◌, ◌^◌, ◌<◌, ◌≤◌, max, Bool, true, false, ◌&&◌, eqb, eq-eqb, eqb-true, inl, inr, Option, Some, None, Result, Ok, Err, List, [], ◌∷◌, ◌++◌, length, refl, ap, sym, subst, ◌∙◌, arith}
 use Rattle.std.specs.Prelude.{slice_index_or}
 use Rattle.std.specs.List.{AllByRecursion}
+use Rattle.std.proofs.lemmas.List.{get_or_default}
 use Rattle.hv_machine.specs.Machine.{State, state_after}
 use Rattle.hv_event.specs.declared.event.ActorId.TheVariants.{Terminal}
 use Rattle.hv_event.specs.declared.event.Event.{Event}
@@ -38,6 +39,10 @@ one-of (x ∷ xs) four = x
 -- some terminal of the board
 pub terminal_of : Board → TerminalCell
 terminal_of b = one-of b.terminals.items (four-items b)
+
+-- the terminal at an index
+pub item-at : (b : Board) (t : ℕ) (d x : TerminalCell) → t < 4 → x ≡ slice_index_or b.terminals.items t x → at b t d ≡ x
+item-at b t d x lt is = get_or_default b.terminals.items t d x (let four = four-items b in omega arith) ∙ sym is
 
 -- stamps rise
 
