@@ -1,10 +1,6 @@
 //! Terminals that run their scripts in rounds over one file tree.
 #![tactic(auto)]
 
-mod files;
-mod script;
-mod scripts;
-mod show;
-mod step;
-mod stop;
-mod terminal;
+mod whole;
+
+pub use whole::{Outcome, run};
