@@ -1,0 +1,15 @@
+pub mod Words
+pub mod Opening
+pub mod Limits
+pub mod Refusal
+pub mod Made
+pub mod Run
+pub mod Due
+pub use Rattle.hv_base.specs.Count
+pub use Rattle.hv_base.specs.Writing
+pub use Rattle.hv_bundle.specs.Bundle
+pub use Rattle.hv_model.specs.Origin
+pub use Rattle.hv_model.specs.Files
+pub use Rattle.hv_model.specs.Legal
+pub use Rattle.hv_model.specs.Rounds
+pub use Rattle.hv_model.specs.Report

@@ -1,0 +1,91 @@
+//! The report of a run.
+ghost use Rattle.std.specs.Prelude.{◌≡◌, ◌++◌, [], length, OnOk, IfOk, codes, false, unwrap_or, slice_get, List};
+ghost use Rattle.std.specs.List.{flat_map};
+ghost use Rattle.std.specs.Fmt.{decimal};
+ghost use Rattle.xvsim.specs.declared.kept.KeptRun.{KeptRun};
+ghost use Rattle.hv_event.specs.Line.{event_text};
+ghost use Rattle.hv_model.specs.Origin.{origin_of, terminals};
+ghost use Rattle.hv_model.specs.Report.{line, titled, terminal_text, heading, states_text, history_text};
+ghost use Rattle.hv_rounds.specs.Outcome.{transcripts_of};
+ghost use Rattle.xvsim.specs.Run.{report_of};
+
+use crate::kept::KeptRun;
+use hv_event::{Event, print_event};
+use hv_model::Opening;
+use hv_text::{Bytes, Strings, push_decimal};
+use std::alloc::{AllocError, Global};
+
+fn push_heading(alloc: Global, to: &mut Bytes, opening: &Opening) -> Result<(), AllocError>
+    ensures { OnOk result (to.new ≡ to.old ++ heading (origin_of opening.now) false) }
+{
+    to.append(b"xvsim 1\nharts ")?;
+    push_decimal(alloc, to, opening.harts as u64)?;
+    to.append(b" turns ")?;
+    push_decimal(alloc, to, opening.turns as u64)?;
+    to.append(b" order seq\n")?;
+    Ok(())
+}
+
+/// What the terminal of this number showed, with a title, where it showed something.
+fn push_terminal(
+    alloc: Global,
+    to: &mut Bytes,
+    transcripts: &Strings,
+    number: usize,
+) -> Result<(), AllocError>
+    ensures { OnOk result (to.new ≡ to.old ++
+        titled (line (codes "term " ++ decimal number)) (unwrap_or (slice_get transcripts.now number) [])) }
+{
+    let Some(text) = transcripts.at(number) else {
+        return Ok(());
+    };
+    if text.is_empty() {
+        return Ok(());
+    }
+    to.append(b"term ")?;
+    push_decimal(alloc, to, number as u64)?;
+    to.append(b"\n")?;
+    to.append(text)?;
+    Ok(())
+}
+
+fn push_terminals(alloc: Global, to: &mut Bytes, transcripts: &Strings) -> Result<(), AllocError>
+    ensures { (run : KeptRun) → transcripts.now ≡ transcripts_of (origin_of run.opening) run.history.items
+        → OnOk result (to.new ≡ to.old ++ flat_map (terminal_text (origin_of run.opening) run.history.items) terminals) }
+{
+    push_terminal(alloc, to, transcripts, 0)?;
+    push_terminal(alloc, to, transcripts, 1)?;
+    push_terminal(alloc, to, transcripts, 2)?;
+    push_terminal(alloc, to, transcripts, 3)?;
+    Ok(())
+}
+
+fn push_events(alloc: Global, to: &mut Bytes, events: &[Event]) -> Result<(), AllocError>
+    ensures { OnOk result (to.new ≡ to.old ++ flat_map (λ e. line (event_text e)) events.now) }
+{
+    for event in events {
+        print_event(alloc, to, event)?;
+        to.append(b"\n")?;
+    }
+    Ok(())
+}
+
+/// The report of a run, of which these are the terminals' transcripts.
+pub fn report_of_run(
+    alloc: Global,
+    run: &KeptRun,
+    transcripts: &Strings,
+) -> Result<Bytes, AllocError>
+    requires { transcripts.now ≡ transcripts_of (origin_of run.now.opening) run.now.history.items }
+    ensures { IfOk result (λ text. text ≡ report_of run.now) }
+{
+    let mut to = Bytes::from_vec(Vec::new(alloc));
+    push_heading(alloc, &mut to, &run.opening)?;
+    push_terminals(alloc, &mut to, transcripts)?;
+    to.append(b"states\nvcpu 0 Reset\nhistory\n")?;
+    push_events(alloc, &mut to, &run.history)?;
+    to.append(b"end ")?;
+    push_decimal(alloc, &mut to, run.history.len() as u64)?;
+    to.append(b"\n")?;
+    Ok(to)
+}

@@ -1,0 +1,66 @@
+//! The program: standard input to standard output.
+#![tactic(auto)]
+
+use hv_base::{InSource, OutSink};
+use std::alloc::{AllocError, Global};
+use std::env::{self, Env};
+use std::io;
+use std::io::Write;
+use std::process::ExitCode;
+use xvsim::{Kept, Status, xvsim};
+
+fn words(rt: &(impl Env + AllocGlobal)) -> Option<Vec<String>> {
+    let mut words = Vec::new(rt.alloc());
+    let mut args = env::args(rt).ok()?;
+    let _program = args.next();
+    for word in args {
+        words.push(word).ok()?;
+    }
+    Some(words)
+}
+
+fn status_of(rt: &(impl Env + AllocGlobal + Input + Print)) -> Status {
+    let Some(words) = words(rt) else {
+        return Status::Usage;
+    };
+    let mut source = InSource::new(rt.reader());
+    let mut sink = OutSink::new(io::writer(rt));
+    let mut kept = Kept { run: None };
+    xvsim(rt.alloc(), &words, &mut source, &mut sink, &mut kept)
+}
+
+fn code_of(status: Status) -> u8 {
+    match status {
+        Status::Done => 0,
+        Status::Usage => 2,
+        Status::ReadFault => 3,
+        Status::WriteFault => 4,
+        Status::BadBundle { .. } => 5,
+        Status::Limit { .. } => 7,
+        Status::StampsSpent { .. } => 8,
+        Status::OutOfMemory => 12,
+        Status::NotBuilt => 13,
+    }
+}
+
+fn tell(rt: &impl Eprint, status: Status) -> io::Result<()> {
+    match status {
+        Status::Done => Ok(()),
+        Status::Usage => eprintln!(rt; "xvsim: usage"),
+        Status::ReadFault => eprintln!(rt; "xvsim: read fault"),
+        Status::WriteFault => eprintln!(rt; "xvsim: write fault"),
+        Status::BadBundle { offset } => eprintln!(rt; "xvsim: bad bundle at {offset}"),
+        Status::Limit { name, number } => {
+            eprintln!(rt; "xvsim: limit {} {number}", name.name())
+        }
+        Status::StampsSpent { .. } => eprintln!(rt; "xvsim: stamps spent"),
+        Status::OutOfMemory => eprintln!(rt; "xvsim: out of memory"),
+        Status::NotBuilt => eprintln!(rt; "xvsim: not built"),
+    }
+}
+
+fn main(rt: HostRuntime) -> ExitCode {
+    let status = status_of(&rt);
+    let _ = tell(&rt, status);
+    ExitCode::from(code_of(status))
+}
