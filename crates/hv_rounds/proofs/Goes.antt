@@ -6,7 +6,8 @@ use Rattle.std.proofs.lemmas.Bool.{ne_eqb}
 use Rattle.std.proofs.lemmas.List.Quantifiers.{Any-push}
 use Rattle.std.proofs.lemmas.List.{get_or_append_left}
 use Rattle.hv_machine.specs.Machine.{Machine, State, next_state, state_after, IsRun, MayHappen}
-use Rattle.hv_machine.proofs.Lists.{filter-append}
+use Rattle.hv_machine.proofs.Lists.{filter-append, all-map}
+use Rattle.hv_merge.specs.Merging.{IsLog, IsFollowedBy}
 use Rattle.hv_event.specs.declared.event.ActorId.TheVariants.{Terminal}
 use Rattle.hv_event.specs.declared.event.Event.{Event}
 use Rattle.hv_model.specs.declared.entry.Entry.{Entry}
@@ -20,7 +21,7 @@ use Rattle.hv_rounds.specs.declared.terminal.Terminal.{Terminal as TerminalCell}
 use Rattle.hv_rounds.specs.declared.board.Board.{Board}
 use Rattle.hv_rounds.specs.Cells.{value_of}
 use Rattle.hv_rounds.specs.Step.{IsStep, FilesPart}
-use Rattle.hv_rounds.specs.Board.{at, IsBoardStep, Holds, own_events, folded, ShownAt, IsHeld, Goes}
+use Rattle.hv_rounds.specs.Board.{at, IsBoardStep, Holds, own_events, folded, ShownAt, IsHeld, IsByTerminal, Goes}
 use Rattle.hv_rounds.proofs.Boards.{may-happen, holds-next, part-of, Part, leaves, takes}
 
 module _ (m : Machine) where
@@ -66,17 +67,32 @@ append-nothing : {A : Type 0} (xs : List A) → xs ++ [] ≡ xs
 append-nothing [] = refl
 append-nothing (x ∷ xs) = ap (λ zs. x ∷ zs) (append-nothing xs)
 
+log-push : (es : List Event) (e : Event) → IsLog es → AllByRecursion (λ f. (f.stamp < e.stamp) × (f.actor ≡ e.actor)) es → IsLog (es ++ e ∷ [])
+log-push [] e log all = (tt, tt)
+log-push (f ∷ es) e log all = (all-push (IsFollowedBy f) es e log.0 (all.0.1, all.0.0), log-push es e log.1 all.1)
+
 -- the terminal of an event has shown one event more
-shown-own : (O : Origin) (t : ℕ) (es : List Entry) (e : Entry) (x x' : TerminalCell) → e.event.actor ≡ Terminal t → ShownAt O t es x
+shown-own : (O : Origin) (t : ℕ) (es : List Entry) (e : Entry) (x x' : TerminalCell) → e.event.actor ≡ Terminal t → x.stamp < e.event.stamp → x'.stamp ≡ e.event.stamp → ShownAt O t es x
     → value_of x' ≡ terminal_after (value_of x) e.event → x'.shown ≡ x.shown ++ event_shown (value_of x) e.event → ShownAt O t (es ++ e ∷ []) x'
-shown-own O t es e x x' is h after shown =
+shown-own O t es e x x' is later stamp h after shown =
     let start = terminal_at_start O t in
     let own : own_events t (es ++ e ∷ []) ≡ own_events t es ++ e.event ∷ [] =
     own-push t es e ∙ ap (λ zs. own_events t es ++ zs) (kept-one (λ y. is_terminal t y.actor) e.event (ap (is_terminal t) is ∙ eq-eqb t t refl)) in
+    let Was : Event → Type 0 = λ f. (f.stamp ≤ x.stamp) × (f.actor ≡ Terminal t) in
+    let Before : Event → Type 0 = λ f. (f.stamp < e.event.stamp) × (f.actor ≡ e.event.actor) in
+    let Now : Event → Type 0 = λ f. (f.stamp ≤ x'.stamp) × (f.actor ≡ Terminal t) in
+    let log : IsLog (own_events t es ++ e.event ∷ []) =
+    log-push (own_events t es) e.event h.log (all-map Was Before (λ f w. (let at_most = w.0 in omega arith, w.1 ∙ sym is)) (own_events t es) h.upto) in
+    let upto : AllByRecursion Now (own_events t es ++ e.event ∷ []) =
+    all-push Now (own_events t es) e.event (all-map Was Now (λ f w. (let at_most = w.0 in omega arith, w.1)) (own_events t es) h.upto) (omega arith, is) in
+    let Log : List Event → Type 0 = IsLog in
+    let Upto : List Event → Type 0 = AllByRecursion Now in
     record {
       value = after ∙ ap (λ v. terminal_after v e.event) h.value ∙ sym (folded-push start (own_events t es) e.event) ∙ ap (folded start) (sym own);
       shown = shown ∙ ap (λ zs. zs ++ event_shown (value_of x) e.event) h.shown ∙ ap (λ v. transcript start (own_events t es) ++ event_shown v e.event) h.value
         ∙ sym (transcript-push start (own_events t es) e.event) ∙ ap (transcript start) (sym own);
+      log = subst Log (sym own) log;
+      upto = subst Upto (sym own) upto;
     }
 
 -- and each other one has not
@@ -85,7 +101,9 @@ shown-other O t u es e x is apart h =
     let start = terminal_at_start O u in
     let own : own_events u (es ++ e ∷ []) ≡ own_events u es =
     own-push u es e ∙ ap (λ zs. own_events u es ++ zs) (kept-none (λ y. is_terminal u y.actor) e.event (ap (is_terminal u) is ∙ ne_eqb u t apart)) ∙ append-nothing (own_events u es) in
-    record { value = h.value ∙ ap (folded start) (sym own); shown = h.shown ∙ ap (transcript start) (sym own) }
+    let Log : List Event → Type 0 = IsLog in
+    let Upto : List Event → Type 0 = AllByRecursion (λ f. (f.stamp ≤ x.stamp) × (f.actor ≡ Terminal u)) in
+    record { value = h.value ∙ ap (folded start) (sym own); shown = h.shown ∙ ap (transcript start) (sym own); log = subst Log (sym own) h.log; upto = subst Upto (sym own) h.upto }
 
 Any-more : {A : Type 0} (P : A → Type 0) (xs : List A) (y : A) → Any P xs → Any P (xs ++ y ∷ [])
 Any-more {A} P xs y h =
@@ -106,6 +124,14 @@ files-held-next es old new own e part h =
       | takes touched one l ↦ held-here es e new.stamp l.stamp
     ]
 
+-- a step's stamp is above its terminal's
+pub event-rises : (files files' : FileCell) (x x' : TerminalCell) (e : Entry) → IsStep files files' x x' e → x.stamp < e.event.stamp
+event-rises files files' x x' e s =
+    elim (part-of files files' x.stamp e e.event.step s.files) [
+      | leaves untouched none h ↦ let next = h.next in omega arith
+      | takes touched one h ↦ let next = h.next in omega arith
+    ]
+
 -- one step more
 pub goes-step : (O : Origin) (s : State (machine O)) (before made : List Entry) (b b' : Board) (t : ℕ) (e : Entry) (d : TerminalCell) → t < 4
     → Goes O s before made b → IsBoardStep b b' t e → Goes O s before (made ++ e ∷ []) b'
@@ -116,6 +142,7 @@ goes-step O s before made b b' t e d below goes step =
     let actor_is = (step.step d).actor ∙ ap Terminal (goes.holds.numbers t d below) in
     let whole : (before ++ made) ++ e ∷ [] ≡ before ++ (made ++ e ∷ []) = append_assoc before made (e ∷ []) in
     let HoldsAt : State m → Type 0 = λ u. Holds O u b' in
+    let later = λ (x : TerminalCell). event-rises b.files b'.files (at b t x) (at b' t x) e (step.step x) in
     record {
       run = run-push m s made e goes.run (may-happen O at_end b b' t e d below goes.holds step);
       holds = subst HoldsAt (sym (after-push m s made e)) next;
@@ -126,13 +153,14 @@ goes-step O s before made b b' t e d below goes step =
             | true ↦ λ same.
                 let is : u ≡ t = eqb-true u t same in
                 subst (λ (v : ℕ). ShownAt O v ((before ++ made) ++ e ∷ []) (at b' v x)) (sym is)
-                (shown-own O t (before ++ made) e (at b t x) (at b' t x) actor_is (goes.shown t x below) (step.step x).after (step.shown x))
+                (shown-own O t (before ++ made) e (at b t x) (at b' t x) actor_is (later x) (step.step x).stamp (goes.shown t x below) (step.step x).after (step.shown x))
             | false ↦ λ apart.
                 let different : u ≢ t = λ same. (let there = eq-eqb u t same in absurd (cc)) in
                 subst (λ (y : TerminalCell). ShownAt O u ((before ++ made) ++ e ∷ []) y) (sym (step.others u x different))
                 (shown-other O t u (before ++ made) e (at b u x) actor_is different (goes.shown u x lt))
           ] refl);
       in_range = all-push (λ (x : Entry). x.event.stamp ≤ greatest_stamp) made e goes.in_range (let bounded = (at b' t d).stamp_bounded in let is = (step.step d).stamp in omega arith);
+      by_terminals = all-push IsByTerminal made e goes.by_terminals (record { number = t; is_one = below; actor = actor_is });
       files_held = subst (λ (es : List Entry). IsHeld es b'.files.stamp) whole (files-held-next (before ++ made) b.files b'.files (at b t d).stamp e (step.step d).files goes.files_held);
       held = λ u x lt.
           let At : List Entry → Type 0 = λ es. IsHeld es (at b' u x).stamp in

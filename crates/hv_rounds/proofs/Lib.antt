@@ -4,3 +4,4 @@ pub mod Boards
 pub mod Rounds
 pub mod Goes
 pub mod PhaseLemmas
+pub mod Merged

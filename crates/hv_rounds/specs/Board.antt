@@ -6,6 +6,7 @@ use Rattle.hv_event.specs.declared.event.ActorId.{ActorId}
 use Rattle.hv_event.specs.declared.event.ActorId.TheVariants.{Hart, Terminal}
 use Rattle.hv_event.specs.declared.event.CellId.TheVariants as component
 use Rattle.hv_event.specs.declared.event.Event.{Event}
+use Rattle.hv_merge.specs.Merging.{IsLog}
 use Rattle.hv_model.specs.declared.entry.Entry.{Entry}
 use Rattle.hv_model.specs.Origin.{Origin}
 use Rattle.hv_model.specs.Cell.{Component, Actor}
@@ -48,14 +49,22 @@ abbrev pub folded : TerminalState → List Event → TerminalState
 folded t [] = t
 folded t (e ∷ es) = folded (terminal_after t e) es
 
--- a terminal has come as far as its events lead, and has shown what they show
+-- a terminal has come as far as its events lead and has shown what they show; they are a log up to its stamp
 pub record ShownAt (O : Origin) (t : ℕ) (es : List Entry) (x : TerminalCell) : Type 0 where
   pub value : value_of x ≡ folded (terminal_at_start O t) (own_events t es)
   pub shown : x.shown ≡ transcript (terminal_at_start O t) (own_events t es)
+  pub log : IsLog (own_events t es)
+  pub upto : AllByRecursion (λ e. (e.stamp ≤ x.stamp) × (e.actor ≡ Terminal t)) (own_events t es)
 
 -- a stamp is none yet, or that of an event
 abbrev pub IsHeld : List Entry → ℕ → Type 0
 IsHeld es n = (n ≡ 0) ⊎ Any (λ e. e.event.stamp ≡ n) es
+
+-- an event is one of the four terminals'
+pub record IsByTerminal (e : Entry) : Type 0 where
+  pub number : ℕ
+  pub is_one : number < 4
+  pub actor : e.event.actor ≡ Terminal number
 
 -- what was made leads from a state to the board, with all events before it and these
 pub record Goes (O : Origin) (s : State (machine O)) (before made : List Entry) (b : Board) : Type 0 where
@@ -63,6 +72,7 @@ pub record Goes (O : Origin) (s : State (machine O)) (before made : List Entry) 
   pub holds : Holds O (state_after (machine O) s made) b
   pub shown : (t : ℕ) (d : TerminalCell) → t < 4 → ShownAt O t (before ++ made) (at b t d)
   pub in_range : AllByRecursion (λ e. e.event.stamp ≤ greatest_stamp) made
+  pub by_terminals : AllByRecursion IsByTerminal made
   pub files_held : IsHeld (before ++ made) b.files.stamp
   pub held : (t : ℕ) (d : TerminalCell) → t < 4 → IsHeld (before ++ made) (at b t d).stamp
 
