@@ -18,7 +18,7 @@ use Rattle.hv_model.specs.Report.{transcript, is_terminal, event_shown}
 use Rattle.hv_rounds.specs.declared.files.FileCell.{FileCell}
 use Rattle.hv_rounds.specs.declared.terminal.Terminal.{Terminal as TerminalCell}
 use Rattle.hv_rounds.specs.declared.board.Board.{Board}
-use Rattle.hv_rounds.specs.Cells.{value_of}
+use Rattle.hv_rounds.specs.Cells.{value_of, BeginsAt}
 use Rattle.hv_rounds.specs.Step.{IsStep}
 
 -- the terminal of a number, or d
@@ -98,3 +98,8 @@ pub record OpenFrom (b : Board) (from t : ℕ) : Type 0 where
 abbrev pub IsTurn : Board → ℕ → Option ℕ → Type 0
 IsTurn b from None = EndedFrom b from × EndedFrom b 0
 IsTurn b from (Some t) = OpenFrom b from t ⊎ (EndedFrom b from × OpenFrom b 0 t)
+
+-- every terminal has the stamp of the first
+pub record BeginTogether (b b' : Board) : Type 0 where
+  pub files : b'.files ≡ b.files
+  pub each : (t : ℕ) (d : TerminalCell) → t < 4 → BeginsAt (at b t d) (at b' t d) (at b 0 d).stamp

@@ -1,5 +1,5 @@
 -- What the cells of a run mean in the abstract machine.
-use Rattle.std.specs.Prelude.{◌≡◌, ℕ, ◌+◌}
+use Rattle.std.specs.Prelude.{◌≡◌, ℕ, ◌+◌, []}
 use Rattle.hv_model.specs.Terminal.{TerminalState}
 use Rattle.hv_rounds.specs.declared.terminal.Terminal.{Terminal}
 
@@ -36,3 +36,16 @@ pub record SameButShown (t t' : Terminal) : Type 0 where
   pub boot : t'.boot ≡ t.boot
   pub own : t'.own ≡ t.own
   pub lines : t'.lines ≡ t.lines
+
+-- the terminal has made and shown nothing
+pub record IsNew (t : Terminal) (number : ℕ) : Type 0 where
+  pub number_is : t.number ≡ number
+  pub stamp : t.stamp ≡ 0
+  pub shown : t.shown ≡ []
+
+-- the terminals differ in their stamp alone, which the second has from elsewhere
+pub record BeginsAt (t t' : Terminal) (stamp : ℕ) : Type 0 where
+  pub number : t'.number ≡ t.number
+  pub value : value_of t' ≡ value_of t
+  pub shown : t'.shown ≡ t.shown
+  pub stamp_is : t'.stamp ≡ stamp

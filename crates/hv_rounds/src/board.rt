@@ -22,7 +22,7 @@ impl Board {
     ghost use Rattle.hv_rounds.specs.declared.stop.Stop.TheVariants as stop;
     ghost use Rattle.hv_rounds.specs.Cells.{value_of};
     ghost use Rattle.hv_rounds.specs.Step.{SpentBy, KeepsFiles};
-    ghost use Rattle.hv_rounds.specs.Board.{at, IsBoardStep, EndedFrom, OpenFrom, IsTurn, FoundLast};
+    ghost use Rattle.hv_rounds.specs.Board.{at, IsBoardStep, EndedFrom, OpenFrom, IsTurn, FoundLast, BeginTogether};
 
     /// The first terminal from a number on that has not ended.
     fn first_open(&self, from: usize) -> Option<usize>
@@ -57,5 +57,16 @@ impl Board {
         ensures kept { KeepsFiles result self.old.files self.new.files }
     {
         take_step(alloc, &mut self.files, &mut self.terminals[number])
+    }
+
+    /// Gives every terminal the stamp of the first.
+    pub fn begin_together(&mut self)
+        requires { (t : ℕ) (d : TerminalCell) → t < 4 → (at self.old t d).count ≤ (at self.old 0 d).stamp }
+        ensures { BeginTogether self.old self.new }
+    {
+        let stamp = self.terminals[0].stamp;
+        for index in 0..4 {
+            self.terminals[index].begin_at(stamp);
+        }
     }
 }

@@ -3,10 +3,12 @@
 
 mod board;
 mod files;
+mod open;
 mod phases;
 mod script;
 mod scripts;
 mod show;
+mod split;
 mod step;
 mod stop;
 mod terminal;

@@ -50,7 +50,7 @@ pub fn next_stamp(one: u64, other: u64) -> Result<u64, Stop>
 }
 
 impl Terminal {
-    ghost use Rattle.hv_rounds.specs.Cells.{value_of, SameButScripts, MadeOne};
+    ghost use Rattle.hv_rounds.specs.Cells.{value_of, SameButScripts, MadeOne, BeginsAt};
     ghost use Rattle.hv_model.specs.Terminal.{Begun, begun, IsAtBootEnd};
     ghost use Rattle.hv_model.specs.Rounds.{terminal_has_ended};
     ghost use Rattle.hv_rounds.specs.Step.{Makes};
@@ -105,5 +105,14 @@ impl Terminal {
             },
             carry: Carry { lines },
         }
+    }
+
+    /// Takes a stamp to begin with.
+    pub fn begin_at(&mut self, stamp: u64)
+        requires counted { self.old.count ≤ stamp }
+        requires in_range { stamp ≤ 2 ^ 62 }
+        ensures { BeginsAt self.old self.new stamp }
+    {
+        self.stamp = stamp;
     }
 }

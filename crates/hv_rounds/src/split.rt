@@ -1,0 +1,68 @@
+//! Entries parted into the logs of the terminals.
+ghost use Rattle.std.specs.Prelude.{◌≡◌, ◌++◌, [], ◌∷◌, filter, OnOk, IfOk};
+ghost use Rattle.hv_model.specs.Report.{is_terminal};
+ghost use Rattle.hv_rounds.specs.Board.{own_events};
+
+use hv_event::{ActorId, Event};
+use hv_model::Entry;
+use std::alloc::{AllocError, Global};
+
+/// The logs of the four terminals.
+#[derive(Drop)]
+pub struct Logs {
+    pub zero: Vec<Event>,
+    pub one: Vec<Event>,
+    pub two: Vec<Event>,
+    pub three: Vec<Event>,
+}
+
+/// Puts an event at the end of its terminal's log.
+fn push_event(logs: &mut Logs, event: Event) -> Result<(), AllocError>
+    ensures zero { OnOk result (logs.new.zero.items ≡ logs.old.zero.items ++ filter (λ e. is_terminal 0 e.actor) (event ∷ [])) }
+    ensures one { OnOk result (logs.new.one.items ≡ logs.old.one.items ++ filter (λ e. is_terminal 1 e.actor) (event ∷ [])) }
+    ensures two { OnOk result (logs.new.two.items ≡ logs.old.two.items ++ filter (λ e. is_terminal 2 e.actor) (event ∷ [])) }
+    ensures three { OnOk result (logs.new.three.items ≡ logs.old.three.items ++ filter (λ e. is_terminal 3 e.actor) (event ∷ [])) }
+{
+    let ActorId::Terminal(number) = event.actor else {
+        return Ok(());
+    };
+    if number == 0 {
+        logs.zero.push(event)?;
+    } else if number == 1 {
+        logs.one.push(event)?;
+    } else if number == 2 {
+        logs.two.push(event)?;
+    } else if number == 3 {
+        logs.three.push(event)?;
+    }
+    Ok(())
+}
+
+/// Puts the events of entries at the ends of the logs.
+pub fn push_entries(logs: &mut Logs, entries: Vec<Entry>) -> Result<(), AllocError>
+    ensures zero { OnOk result (logs.new.zero.items ≡ logs.old.zero.items ++ own_events 0 entries.items) }
+    ensures one { OnOk result (logs.new.one.items ≡ logs.old.one.items ++ own_events 1 entries.items) }
+    ensures two { OnOk result (logs.new.two.items ≡ logs.old.two.items ++ own_events 2 entries.items) }
+    ensures three { OnOk result (logs.new.three.items ≡ logs.old.three.items ++ own_events 3 entries.items) }
+{
+    for entry in entries {
+        let Entry { event, carry: _ } = entry;
+        push_event(logs, event)?;
+    }
+    Ok(())
+}
+
+/// No events.
+pub fn no_logs(alloc: Global) -> Logs
+    ensures zero { result.zero.items ≡ [] }
+    ensures one { result.one.items ≡ [] }
+    ensures two { result.two.items ≡ [] }
+    ensures three { result.three.items ≡ [] }
+{
+    Logs {
+        zero: Vec::new(alloc),
+        one: Vec::new(alloc),
+        two: Vec::new(alloc),
+        three: Vec::new(alloc),
+    }
+}
