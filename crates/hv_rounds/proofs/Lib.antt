@@ -5,3 +5,4 @@ pub mod Rounds
 pub mod Goes
 pub mod PhaseLemmas
 pub mod Merged
+pub mod Wholes

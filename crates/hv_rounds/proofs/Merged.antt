@@ -20,6 +20,7 @@ use Rattle.hv_model.specs.CellLaws.{same_actor-self, same_actor-only}
 use Rattle.hv_model.specs.Rules.{machine}
 use Rattle.hv_model.specs.Report.{is_terminal}
 use Rattle.hv_rounds.specs.Board.{own_events, IsByTerminal}
+use Rattle.hv_rounds.specs.Close.{logs_of}
 
 abbrev pub event_of : Entry → Event
 event_of e = e.event
@@ -136,9 +137,6 @@ hart-apart h u (Terminal t) is = refl
 terminal-apart : (t u : ℕ) → t ≢ u → IsApart (Terminal t) u
 terminal-apart t u apart (Hart g) is = refl
 terminal-apart t u apart (Terminal v) is = let same : u ≡ v = eqb-true u v is in ne_eqb t v (λ q. apart (q ∙ sym same))
-
-abbrev pub logs_of : List Entry → List (List Event)
-logs_of es = own_events 0 es ∷ own_events 1 es ∷ own_events 2 es ∷ own_events 3 es ∷ []
 
 no-entries : (a : ActorId) (es : List Entry) → ((u : ℕ) → u < 4 → IsApart a u) → AllByRecursion IsByTerminal es → entries_by a es ≡ []
 no-entries a [] apart by = refl

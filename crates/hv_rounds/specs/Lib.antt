@@ -5,6 +5,7 @@ pub mod Step
 pub mod Board
 pub mod Phase
 pub mod Outcome
+pub mod Close
 pub use Rattle.hv_model.specs.Legal
 pub use Rattle.hv_model.specs.Rounds
 pub use Rattle.hv_model.specs.Report

@@ -30,3 +30,8 @@ BootEnds O made b (Some n) =
 abbrev pub RoundsEnd : (O : Origin) → State (machine O) → List Entry → List Entry → Board → Option ℕ → Type 0
 RoundsEnd O s before made b None = Goes O s before made b × TakesTurns O s [] made × EndedFrom b 0
 RoundsEnd O s before made b (Some n) = (c : Board) × Goes O s before made c × (b.files ≡ c.files) × FoundLast c n
+
+-- the boot script has ended on the board
+pub record IsBooted (O : Origin) (made : List Entry) (b : Board) : Type 0 where
+  pub part : BootPart O made b
+  pub ended : (d : TerminalCell) → IsAtBootEnd (value_of (at b 0 d))

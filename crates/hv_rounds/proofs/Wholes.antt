@@ -1,0 +1,150 @@
+-- The whole run.
+use Rattle.std.proofs.Common.{◌≡◌, ◌≢◌, ℕ, zero, suc, ◌+◌, ◌<◌, ◌≤◌, ◌^◌, max, Bool, true, false, eqb, eq-eqb, eqb-true, inl, inr, ◌⊎◌, Option, Some, None, List, [], ◌∷◌, ◌++◌, map, filter, length, refl, ap, sym, subst, ◌∙◌, arith}
+use Rattle.std.specs.Prelude.{slice_index_or, Any}
+use Rattle.std.specs.List.{AllByRecursion, range_with_len}
+use Rattle.std.proofs.lemmas.Bool.{ne_eqb, cases_lt}
+use Rattle.hv_machine.specs.Machine.{State, state_after, events_by}
+use Rattle.hv_machine.specs.Merging.{IsMerged}
+use Rattle.hv_machine.specs.Phases.{IsTwoPart}
+use Rattle.hv_machine.proofs.Lists.{all-map, append-nothing}
+use Rattle.hv_event.specs.declared.event.ActorId.{ActorId}
+use Rattle.hv_event.specs.declared.event.ActorId.TheVariants.{Hart, Terminal}
+use Rattle.hv_event.specs.declared.event.CellId.TheVariants as component
+use Rattle.hv_event.specs.declared.event.Event.{Event}
+use Rattle.hv_merge.specs.Merging.{AreLogs, IsLog}
+use Rattle.hv_model.specs.declared.entry.Entry.{Entry}
+use Rattle.hv_model.specs.Origin.{Origin, terminals}
+use Rattle.hv_model.specs.Cell.{Component, Actor, is_actor, rank_of}
+use Rattle.hv_model.specs.Files.{load_files}
+use Rattle.hv_model.specs.Terminal.{TerminalState, next_in, IsAtBootEnd, IsAtEnd}
+use Rattle.hv_model.specs.Rules.{machine}
+use Rattle.hv_model.specs.Legal.{first, greatest_stamp, start, own_at_start, terminal_at_start, booted, begun, Leads, IsComplete, IsFinishedRun, IsStoppedRun}
+use Rattle.hv_model.specs.Rounds.{IsRounds, TakesTurns, terminal_has_ended, is_over}
+use Rattle.hv_model.specs.Report.{is_terminal, transcript}
+use Rattle.hv_model.proofs.RunLemmas.{made-leads, boot-leads, in-range-merged}
+use Rattle.hv_rounds.specs.declared.terminal.Terminal.{Terminal as TerminalCell}
+use Rattle.hv_rounds.specs.declared.board.Board.{Board}
+use Rattle.hv_rounds.specs.declared.whole.Outcome.{Outcome}
+use Rattle.hv_rounds.specs.Cells.{value_of, IsNew, BeginsAt}
+use Rattle.hv_rounds.specs.Board.{at, Goes, Holds, ShownAt, IsHeld, IsByTerminal, own_events, folded, FoundLast, EndedFrom, BeginTogether}
+use Rattle.hv_rounds.specs.Phase.{BootPart, BootEnds, RoundsEnd, IsBooted}
+use Rattle.hv_rounds.specs.Close.{logs_of, Closes}
+use Rattle.hv_rounds.specs.Outcome.{transcripts_of, IsFinished, IsSpent}
+use Rattle.hv_rounds.proofs.PhaseLemmas.{terminal_of, item-at}
+use Rattle.hv_rounds.proofs.Merged.{MergedEntries, merged-entries, own-in-merged, are-logs}
+
+-- the board at the start
+
+record Starts (O : Origin) (b : Board) (t : ℕ) : Type 0 where
+  value : (d : TerminalCell) → value_of (at b t d) ≡ terminal_at_start O t
+  new : (d : TerminalCell) → IsNew (at b t d) t
+
+starts-at : (O : Origin) (b : Board) (t : ℕ) (x : TerminalCell) → ((d : TerminalCell) → at b t d ≡ x) → value_of x ≡ terminal_at_start O t → IsNew x t → Starts O b t
+starts-at O b t x is value new = record {
+  value = λ d. ap value_of (is d) ∙ value;
+  new = λ d. subst (λ (y : TerminalCell). IsNew y t) (sym (is d)) new;
+}
+
+pub opened-board : (O : Origin) (b : Board) (x0 x1 x2 x3 : TerminalCell) → b.terminals.items ≡ x0 ∷ x1 ∷ x2 ∷ x3 ∷ []
+    → b.files.tree ≡ load_files O.opening.files → b.files.stamp ≡ 0
+    → value_of x0 ≡ terminal_at_start O 0 → IsNew x0 0 → value_of x1 ≡ terminal_at_start O 1 → IsNew x1 1
+    → value_of x2 ≡ terminal_at_start O 2 → IsNew x2 2 → value_of x3 ≡ terminal_at_start O 3 → IsNew x3 3 → BootPart O [] b
+opened-board O b x0 x1 x2 x3 items tree stamp v0 n0 v1 n1 v2 n2 v3 n3 =
+    record {
+      goes = record {
+        run = tt;
+        holds = record {
+          files = sym tree;
+          files_stamp = sym stamp;
+          terminals = λ t d lt. sym ((all t lt).value d);
+          stamps = λ t d lt. sym ((all t lt).new d).stamp;
+          numbers = λ t d lt. ((all t lt).new d).number_is;
+          harts = λ h. refl;
+        };
+        shown = λ t d lt. record { value = (all t lt).value d; shown = ((all t lt).new d).shown; log = tt; upto = tt };
+        in_range = tt;
+        by_terminals = tt;
+        files_held = inl stamp;
+        held = λ t d lt. inl ((all t lt).new d).stamp;
+      };
+      alone = tt;
+      own = λ d. ap (λ (v : TerminalState). v.own) ((all 0 (omega arith)).value d);
+    }
+  where
+    at-item : (t : ℕ) (d : TerminalCell) → at b t d ≡ slice_index_or (x0 ∷ x1 ∷ x2 ∷ x3 ∷ []) t d
+    at-item t d = ap (λ (xs : List TerminalCell). slice_index_or xs t d) items
+
+    all : (t : ℕ) → t < 4 → Starts O b t
+    all zero lt = starts-at O b 0 x0 (at-item 0) v0 n0
+    all (suc zero) lt = starts-at O b 1 x1 (at-item 1) v1 n1
+    all (suc (suc zero)) lt = starts-at O b 2 x2 (at-item 2) v2 n2
+    all (suc (suc (suc zero))) lt = starts-at O b 3 x3 (at-item 3) v3 n3
+    all (suc (suc (suc (suc t)))) lt = absurd (omega arith)
+
+-- beginning together
+
+others-none : (t : ℕ) → t ≢ 0 → (es : List Entry) → AllByRecursion (λ e. e.event.actor ≡ Terminal 0) es → own_events t es ≡ []
+others-none t apart [] h = refl
+others-none t apart (e ∷ es) h =
+    let here : is_terminal t e.event.actor ≡ false = ap (is_terminal t) h.0 ∙ ne_eqb t 0 apart in
+    rw here (others-none t apart es h.1)
+
+pub counts-fit : (O : Origin) (boot : List Entry) (b : Board) → BootPart O boot b → (t : ℕ) (d : TerminalCell) → t < 4 → (at b t d).count ≤ (at b 0 d).stamp
+counts-fit O boot b p t d lt =
+    let Goal : Bool → Type 0 = λ same. eqb t 0 ≡ same → (at b t d).count ≤ (at b 0 d).stamp in
+    elim (eqb t 0) as Goal [
+      | true ↦ λ same.
+          let is : t ≡ 0 = eqb-true t 0 same in
+          subst (λ (u : ℕ). (at b u d).count ≤ (at b 0 d).stamp) (sym is) (at b 0 d).count_bounded
+      | false ↦ λ apart.
+          let different : t ≢ 0 = λ same. (let there = eq-eqb t 0 same in absurd (cc)) in
+          let none : (at b t d).count ≡ 0 =
+          ap (λ (v : TerminalState). v.count) ((p.goes.shown t d lt).value ∙ ap (folded (terminal_at_start O t)) (others-none t different boot p.alone)) in
+          omega arith
+    ] refl
+
+pub begun-goes : (O : Origin) (boot : List Entry) (b b' : Board) → BootPart O boot b → BeginTogether b b' → Goes O (begun O boot) boot [] b'
+begun-goes O boot b b' p together =
+    let whole : boot ++ [] ≡ boot = append-nothing boot in
+    let holds = p.goes.holds in
+    record {
+      run = tt;
+      holds = record {
+        files = holds.files ∙ ap (λ f. f.tree) (sym together.files);
+        files_stamp = holds.files_stamp ∙ ap (λ f. f.stamp) (sym together.files);
+        terminals = λ t d lt. holds.terminals t d lt ∙ sym (together.each t d lt).value;
+        stamps = λ t d lt. holds.stamps 0 d (omega arith) ∙ sym (together.each t d lt).stamp_is;
+        numbers = λ t d lt. (together.each t d lt).number ∙ holds.numbers t d lt;
+        harts = holds.harts;
+      };
+      shown = λ t d lt.
+          let h = p.goes.shown t d lt in
+          let e = together.each t d lt in
+          let Now : List Event → Type 0 = AllByRecursion (λ f. (f.stamp ≤ (at b' t d).stamp) × (f.actor ≡ Terminal t)) in
+          let Goal : Bool → Type 0 = λ same. eqb t 0 ≡ same → Now (own_events t boot) in
+          let upto : Now (own_events t boot) =
+          elim (eqb t 0) as Goal [
+            | true ↦ λ same.
+                let is : t ≡ 0 = eqb-true t 0 same in
+                let stamps : (at b t d).stamp ≡ (at b' t d).stamp = ap (λ (u : ℕ). (at b u d).stamp) is ∙ sym e.stamp_is in
+                subst (λ (n : ℕ). AllByRecursion (λ (f : Event). (f.stamp ≤ n) × (f.actor ≡ Terminal t)) (own_events t boot)) stamps h.upto
+            | false ↦ λ apart.
+                let different : t ≢ 0 = λ same. (let there = eq-eqb t 0 same in absurd (cc)) in
+                subst Now (sym (others-none t different boot p.alone)) tt
+          ] refl in
+          subst (λ (es : List Entry). ShownAt O t es (at b' t d)) (sym whole) (record { value = e.value ∙ h.value; shown = e.shown ∙ h.shown; log = h.log; upto = upto });
+      in_range = tt;
+      by_terminals = tt;
+      files_held = subst (λ (es : List Entry). IsHeld es b'.files.stamp) (sym whole) (subst (λ (f : _). IsHeld boot f.stamp) (sym together.files) p.goes.files_held);
+      held = λ t d lt.
+          subst (λ (es : List Entry). IsHeld es (at b' t d).stamp) (sym whole)
+          (subst (λ (n : ℕ). IsHeld boot n) (sym (together.each t d lt).stamp_is) (p.goes.held 0 d (omega arith)));
+    }
+
+-- the logs
+
+pub goes-logs : (O : Origin) (s : State (machine O)) (before made : List Entry) (b : Board) → Goes O s before made b → AreLogs (logs_of (before ++ made))
+goes-logs O s before made b g =
+    let d = terminal_of b in
+    are-logs (before ++ made) (λ t lt. (g.shown t d lt).log)
+    (λ t lt. all-map (λ (e : Event). (e.stamp ≤ (at b t d).stamp) × (e.actor ≡ Terminal t)) (λ (e : Event). e.actor ≡ Terminal t) (λ e h. h.1) (own_events t (before ++ made)) (g.shown t d lt).upto)
