@@ -53,10 +53,10 @@ here-first h hs = rw (same-agree h.actor h.actor ∙ same_actor-self h.actor) re
 not-here : (a : ActorId) (h : Event) (hs : List Event) → same_actor a h.actor ≡ false → events_of a (h ∷ hs) ≡ events_of a hs
 not-here a h hs is = rw (same-agree a h.actor ∙ is) refl
 
-by-here : (a : ActorId) (f : Entry) (fs : List Entry) → same_actor a f.event.actor ≡ true → entries_by a (f ∷ fs) ≡ f ∷ entries_by a fs
+pub by-here : (a : ActorId) (f : Entry) (fs : List Entry) → same_actor a f.event.actor ≡ true → entries_by a (f ∷ fs) ≡ f ∷ entries_by a fs
 by-here a f fs is = rw is refl
 
-by-other : (a : ActorId) (f : Entry) (fs : List Entry) → same_actor a f.event.actor ≡ false → entries_by a (f ∷ fs) ≡ entries_by a fs
+pub by-other : (a : ActorId) (f : Entry) (fs : List Entry) → same_actor a f.event.actor ≡ false → entries_by a (f ∷ fs) ≡ entries_by a fs
 by-other a f fs is = rw is refl
 
 pub record Lifted (H : List Event) (L : ActorId → List Entry) : Type 0 where

@@ -29,7 +29,7 @@ use Rattle.hv_rounds.proofs.Rounds.{last_terminals, TookTurns, turns-push, turns
 
 -- the terminals of a board are four
 
-four-items : (b : Board) → length b.terminals.items ≡ 4
+pub four-items : (b : Board) → length b.terminals.items ≡ 4
 four-items b = omega (arith, b.four)
 
 one-of : (xs : List TerminalCell) → length xs ≡ 4 → TerminalCell
@@ -192,11 +192,11 @@ boot-step O made b b' e p s not_end =
     }
 
 -- a terminal whose boot script has not ended has not ended
-over-none : (n : Option (List ℕ × Scripts)) → is_over n ≡ true → n ≡ None
+pub over-none : (n : Option (List ℕ × Scripts)) → is_over n ≡ true → n ≡ None
 over-none None h = refl
 over-none (Some n) h = absurd (cc)
 
-and-both : (p q : Bool) → (p && q) ≡ true → (p ≡ true) × (q ≡ true)
+pub and-both : (p q : Bool) → (p && q) ≡ true → (p ≡ true) × (q ≡ true)
 and-both true true h = (refl, refl)
 and-both true false h = absurd (cc)
 and-both false q h = absurd (cc)
