@@ -1,5 +1,5 @@
 -- What a closed board leaves.
-use Rattle.std.proofs.Common.{◌≡◌, ℕ, zero, suc, ◌+◌, ◌<◌, ◌≤◌, ◌^◌, max, Bool, true, false, ◌&&◌, eqb, eqb-true, inl, inr, ◌⊎◌, Option, Some, None, Result, Ok, Err, List, [], ◌∷◌, ◌++◌, map, filter, cond, length, refl, ap, sym, subst, ◌∙◌, arith}
+use Rattle.std.proofs.Common.{◌≡◌, ℕ, zero, suc, ◌<◌, ◌≤◌, max, Bool, true, false, ◌&&◌, eqb, eqb-true, inl, inr, ◌⊎◌, Option, Some, None, Result, Ok, Err, List, [], ◌∷◌, ◌++◌, map, filter, cond, length, refl, ap, sym, subst, ◌∙◌, arith}
 use Rattle.std.specs.Prelude.{slice_index_or, Any, IfOk}
 use Rattle.std.specs.List.{AllByRecursion, range_with_len}
 use Rattle.std.proofs.lemmas.Bool.{cases_lt}
@@ -11,10 +11,10 @@ use Rattle.hv_event.specs.declared.event.ActorId.TheVariants.{Hart, Terminal}
 use Rattle.hv_event.specs.declared.event.Event.{Event}
 use Rattle.hv_merge.specs.Merging.{AreLogs, IsMergeOf}
 use Rattle.hv_model.specs.declared.entry.Entry.{Entry}
-use Rattle.hv_model.specs.Origin.{Origin, terminals}
+use Rattle.hv_model.specs.Origin.{Origin}
 use Rattle.hv_model.specs.Cell.{Actor, is_actor, same_actor}
 use Rattle.hv_model.specs.CellLaws.{same_actor-self}
-use Rattle.hv_model.specs.Terminal.{TerminalState, Scripts, next_in, IsAtBootEnd, IsAtEnd}
+use Rattle.hv_model.specs.Terminal.{TerminalState, next_in, IsAtBootEnd, IsAtEnd}
 use Rattle.hv_model.specs.Rules.{machine}
 use Rattle.hv_model.specs.Legal.{first, greatest_stamp, start, own_at_start, terminal_at_start, booted, begun, Leads, IsComplete}
 use Rattle.hv_model.specs.Rounds.{TakesTurns, terminal_has_ended, is_over}
@@ -24,7 +24,7 @@ use Rattle.hv_rounds.specs.declared.terminal.Terminal.{Terminal as TerminalCell}
 use Rattle.hv_rounds.specs.declared.board.Board.{Board}
 use Rattle.hv_rounds.specs.declared.whole.Outcome.{Outcome}
 use Rattle.hv_rounds.specs.Cells.{value_of}
-use Rattle.hv_rounds.specs.Board.{at, Goes, IsHeld, IsByTerminal, own_events, FoundLast, EndedFrom}
+use Rattle.hv_rounds.specs.Board.{at, Goes, IsHeld, IsByTerminal, FoundLast, EndedFrom}
 use Rattle.hv_rounds.specs.Phase.{BootPart, BootEnds, RoundsEnd, IsBooted}
 use Rattle.hv_rounds.specs.Close.{logs_of, Closes}
 use Rattle.hv_rounds.specs.Outcome.{transcripts_of, IsFinished, IsSpent, IsOutcome}
@@ -71,11 +71,13 @@ has-own P (e ∷ es) (inl p) =
 has-own P (e ∷ es) (inr h) =
     let k = has-own P es h in
     let Own : List Entry → Type 0 = Has P in
-    let Goal : Bool → Type 0 = λ b. same_actor k.0 e.event.actor ≡ b → Has P (entries_by k.0 (e ∷ es)) in
-    (k.0, elim (same_actor k.0 e.event.actor) as Goal [
-      | true ↦ λ same. subst Own (sym (by-here k.0 e es same)) (inr k.1)
-      | false ↦ λ apart. subst Own (sym (by-other k.0 e es apart)) k.1
-    ] refl)
+    let Goal : Bool → Type 0 = λ b. same_actor k.0 e.event.actor ≡ b → Has P (entries_by k.0 (e ∷ es)) in (
+      k.0,
+      elim (same_actor k.0 e.event.actor) as Goal [
+        | true ↦ λ same. subst Own (sym (by-here k.0 e es same)) (inr k.1)
+        | false ↦ λ apart. subst Own (sym (by-other k.0 e es apart)) k.1
+      ] refl,
+    )
 
 -- a stamp that was made is in the merged list
 held-in-merged : (O : Origin) (es : List Entry) (H : List Event) (n : ℕ) → MergedEntries O es H → Any (λ e. e.event.stamp ≡ n) es → Any (λ e. e.stamp ≡ n) H
@@ -213,7 +215,7 @@ module _ (O : Origin) (boot : List Entry) (b : Board) (p : BootPart O boot b) wh
     shown : (H : List Event) → IsMergeOf (logs_of (boot ++ made)) H → map (λ x. x.shown) c.terminals.items ≡ transcripts_of O H
     shown H merge =
         map-four c.terminals.items (four-items c) (λ t. transcript (terminal_at_start O t) (filter (λ e. is_terminal t e.actor) H)) (λ t d lt.
-          (g.shown t d lt).shown ∙ ap (transcript (terminal_at_start O t)) (sym (own-in-merged (boot ++ made) H both-by merge t)))
+        (g.shown t d lt).shown ∙ ap (transcript (terminal_at_start O t)) (sym (own-in-merged (boot ++ made) H both-by merge t)))
 
     -- a run that came to its end
     pub finished : (o : Outcome) → O.opening.turns ≡ 0 → TakesTurns O (begun O boot) [] made → EndedFrom c 0 → Closes c (boot ++ made) None o → IsFinished O o

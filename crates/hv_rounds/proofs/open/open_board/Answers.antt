@@ -1,4 +1,4 @@
-use Rattle.std.proofs.Common.{◌≡◌, List, [], ◌∷◌, ◌++◌, refl, ap, ◌∙◌}
+use Rattle.std.proofs.Common.{List, [], ◌∷◌, ◌++◌, refl, ap, ◌∙◌}
 use Rattle.hv_model.specs.Origin.{origin_of}
 use Rattle.hv_rounds.specs.declared.terminal.Terminal.{Terminal}
 use Rattle.hv_rounds.proofs.Wholes.{opened-board}
