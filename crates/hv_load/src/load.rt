@@ -64,12 +64,7 @@ fn push_name(alloc: Global, front: &mut Path, path: &Path, place: usize) -> Resu
 }
 
 /// Adds a file, with the folders on its way.
-fn add_file(
-    alloc: Global,
-    tree: &mut FileTree,
-    path: &Path,
-    bytes: &[u8],
-) -> Result<(), AllocError>
+fn add_file(alloc: Global, tree: &mut FileTree, path: &Path, bytes: &[u8]) -> Result<(), AllocError>
     requires named { 0 < length path.now }
     requires sorted { IsTrue (is_sorted path_cmp tree.old) }
     ensures { OnOk result (tree.new ≡ with_way tree.old path.now bytes.now) }

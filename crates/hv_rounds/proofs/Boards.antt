@@ -1,8 +1,8 @@
 -- A step of the board is a step of the abstract machine.
-use Rattle.std.proofs.Common.{◌≡◌, ◌≢◌, ℕ, zero, suc, ◌+◌, ◌<◌, ◌≤◌, max, Bool, true, false, ◌||◌, eqb, eq-eqb, eqb-true, if◌then◌else◌, List, [], ◌∷◌, map, refl, ap, sym, subst, ◌∙◌, arith}
+use Rattle.std.proofs.Common.{◌≡◌, ◌≢◌, ℕ, ◌+◌, ◌<◌, Bool, true, false, ◌||◌, eqb, eq-eqb, eqb-true, List, [], ◌∷◌, map, refl, ap, sym, subst, ◌∙◌, arith}
 use Rattle.std.proofs.lemmas.Bool.{ne_eqb}
 use Rattle.std.specs.List.{AllByRecursion, list_any}
-use Rattle.hv_machine.specs.Machine.{Machine, State, CellState, cell_after, greatest, touches, next_state, MayHappen}
+use Rattle.hv_machine.specs.Machine.{Machine, State, cell_after, greatest, touches, next_state, MayHappen}
 use Rattle.hv_event.specs.declared.event.ActorId.{ActorId}
 use Rattle.hv_event.specs.declared.event.ActorId.TheVariants.{Hart, Terminal}
 use Rattle.hv_event.specs.declared.event.CellId.{CellId}
@@ -14,7 +14,7 @@ use Rattle.hv_model.specs.Origin.{Origin}
 use Rattle.hv_model.specs.Cell.{Cell, Component, Actor, same_cell, same_actor}
 use Rattle.hv_model.specs.Files.{FilesAgree, files_after}
 use Rattle.hv_model.specs.Terminal.{TerminalState, TerminalAgrees, terminal_after}
-use Rattle.hv_model.specs.Rules.{rules, machine, components_of, footprint_of, IsAllowedAt}
+use Rattle.hv_model.specs.Rules.{machine, components_of, IsAllowedAt}
 use Rattle.hv_rounds.specs.declared.files.FileCell.{FileCell}
 use Rattle.hv_rounds.specs.declared.terminal.Terminal.{Terminal as TerminalCell}
 use Rattle.hv_rounds.specs.declared.board.Board.{Board}

@@ -1,5 +1,5 @@
 -- What was made so far, when one step more is made.
-use Rattle.std.proofs.Common.{◌≡◌, ◌≢◌, ℕ, zero, suc, ◌+◌, ◌<◌, ◌≤◌, max, Bool, true, false, eqb, eq-eqb, eqb-true, inl, inr, ◌⊎◌, Option, Some, None, List, [], ◌∷◌, ◌++◌, map, filter, cond, refl, ap, sym, subst, ◌∙◌, arith, append_assoc, length-append}
+use Rattle.std.proofs.Common.{◌≡◌, ◌≢◌, ℕ, ◌<◌, ◌≤◌, Bool, true, false, eqb, eq-eqb, eqb-true, inl, inr, List, [], ◌∷◌, ◌++◌, map, filter, refl, ap, sym, subst, ◌∙◌, arith, append_assoc, length-append}
 use Rattle.std.specs.Prelude.{Any}
 use Rattle.std.specs.List.{AllByRecursion}
 use Rattle.std.proofs.lemmas.Bool.{ne_eqb}
@@ -22,7 +22,7 @@ use Rattle.hv_rounds.specs.declared.board.Board.{Board}
 use Rattle.hv_rounds.specs.Cells.{value_of}
 use Rattle.hv_rounds.specs.Step.{IsStep, FilesPart}
 use Rattle.hv_rounds.specs.Board.{at, IsBoardStep, Holds, own_events, folded, ShownAt, IsHeld, IsByTerminal, Goes}
-use Rattle.hv_rounds.proofs.Boards.{may-happen, holds-next, part-of, Part, leaves, takes}
+use Rattle.hv_rounds.proofs.Boards.{may-happen, holds-next, part-of, leaves, takes}
 
 module _ (m : Machine) where
   pub run-push : (s : State m) (es : List m.Event) (e : m.Event) → IsRun m s es → MayHappen m (state_after m s es) e → IsRun m s (es ++ e ∷ [])
@@ -90,7 +90,7 @@ shown-own O t es e x x' is later stamp h after shown =
     record {
       value = after ∙ ap (λ v. terminal_after v e.event) h.value ∙ sym (folded-push start (own_events t es) e.event) ∙ ap (folded start) (sym own);
       shown = shown ∙ ap (λ zs. zs ++ event_shown (value_of x) e.event) h.shown ∙ ap (λ v. transcript start (own_events t es) ++ event_shown v e.event) h.value
-        ∙ sym (transcript-push start (own_events t es) e.event) ∙ ap (transcript start) (sym own);
+          ∙ sym (transcript-push start (own_events t es) e.event) ∙ ap (transcript start) (sym own);
       log = subst Log (sym own) log;
       upto = subst Upto (sym own) upto;
     }

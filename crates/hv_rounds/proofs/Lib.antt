@@ -6,3 +6,4 @@ pub mod Goes
 pub mod PhaseLemmas
 pub mod Merged
 pub mod Wholes
+pub mod Ends

@@ -1,5 +1,5 @@
 -- The merged logs of a run, as entries.
-use Rattle.std.proofs.Common.{◌≡◌, ◌≢◌, ℕ, zero, suc, ◌<◌, ◌≤◌, ◌⊎◌, inl, inr, Bool, true, false, eqb, eq-eqb, eqb-true, List, [], ◌∷◌, ◌++◌, map, filter, cond, refl, ap, sym, subst, ◌∙◌, arith}
+use Rattle.std.proofs.Common.{◌≡◌, ◌≢◌, ℕ, zero, suc, ◌<◌, inl, inr, Bool, true, false, eq-eqb, eqb-true, List, [], ◌∷◌, map, filter, cond, refl, ap, sym, subst, ◌∙◌, arith}
 use Rattle.std.proofs.lemmas.Bool.{ne_eqb}
 use Rattle.std.specs.List.{AllByRecursion, flat_map}
 use Rattle.hv_machine.specs.Machine.{events_by}
@@ -53,10 +53,10 @@ here-first h hs = rw (same-agree h.actor h.actor ∙ same_actor-self h.actor) re
 not-here : (a : ActorId) (h : Event) (hs : List Event) → same_actor a h.actor ≡ false → events_of a (h ∷ hs) ≡ events_of a hs
 not-here a h hs is = rw (same-agree a h.actor ∙ is) refl
 
-by-here : (a : ActorId) (f : Entry) (fs : List Entry) → same_actor a f.event.actor ≡ true → entries_by a (f ∷ fs) ≡ f ∷ entries_by a fs
+pub by-here : (a : ActorId) (f : Entry) (fs : List Entry) → same_actor a f.event.actor ≡ true → entries_by a (f ∷ fs) ≡ f ∷ entries_by a fs
 by-here a f fs is = rw is refl
 
-by-other : (a : ActorId) (f : Entry) (fs : List Entry) → same_actor a f.event.actor ≡ false → entries_by a (f ∷ fs) ≡ entries_by a fs
+pub by-other : (a : ActorId) (f : Entry) (fs : List Entry) → same_actor a f.event.actor ≡ false → entries_by a (f ∷ fs) ≡ entries_by a fs
 by-other a f fs is = rw is refl
 
 pub record Lifted (H : List Event) (L : ActorId → List Entry) : Type 0 where
@@ -225,7 +225,11 @@ apart-all t u apart (e ∷ one) other h k = (apart-one other k, apart-all t u ap
 pub are-logs : (es : List Entry) → ((t : ℕ) → t < 4 → IsLog (own_events t es)) → ((t : ℕ) → t < 4 → AllByRecursion (λ e. e.actor ≡ Terminal t) (own_events t es)) → AreLogs (logs_of es)
 are-logs es log own =
     let different = λ (t u : ℕ) (lt : t < 4) (lu : u < 4) (apart : t ≢ u). apart-all t u apart (own_events t es) (own_events u es) (own t lt) (own u lu) in (
-      log 0 (omega arith), (different 0 1 (omega arith) (omega arith) (λ q. omega arith), (different 0 2 (omega arith) (omega arith) (λ q. omega arith), (different 0 3 (omega arith) (omega arith) (λ q. omega arith), tt))),
-      (log 1 (omega arith), (different 1 2 (omega arith) (omega arith) (λ q. omega arith), (different 1 3 (omega arith) (omega arith) (λ q. omega arith), tt)),
-      (log 2 (omega arith), (different 2 3 (omega arith) (omega arith) (λ q. omega arith), tt), (log 3 (omega arith), tt, tt))),
+      log 0 (omega arith),
+      (different 0 1 (omega arith) (omega arith) (λ q. omega arith), (different 0 2 (omega arith) (omega arith) (λ q. omega arith), (different 0 3 (omega arith) (omega arith) (λ q. omega arith), tt))),
+      (
+        log 1 (omega arith),
+        (different 1 2 (omega arith) (omega arith) (λ q. omega arith), (different 1 3 (omega arith) (omega arith) (λ q. omega arith), tt)),
+        (log 2 (omega arith), (different 2 3 (omega arith) (omega arith) (λ q. omega arith), tt), (log 3 (omega arith), tt, tt)),
+      ),
     )

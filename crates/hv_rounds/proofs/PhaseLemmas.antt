@@ -1,7 +1,6 @@
 -- The phases of a run.
-use Rattle.std.proofs.Common.{◌≡◌, ◌≢◌, ℕ, zero, suc, ◌+◌, ◌-◌, ◌*◌, ◌^◌, ◌<◌, ◌≤◌, max, Bool, true, false, ◌&&◌, eqb, eq-eqb, eqb-true, inl, inr, Option, Some, None, Result, Ok, Err, List, [], ◌∷◌, ◌++◌, length, refl, ap, sym, subst, ◌∙◌, arith}
+use Rattle.std.proofs.Common.{◌≡◌, ◌≢◌, ℕ, zero, suc, ◌+◌, ◌-◌, ◌*◌, ◌^◌, ◌<◌, ◌≤◌, Bool, true, false, ◌&&◌, eqb, eqb-true, inl, inr, Option, Some, None, Ok, Err, List, [], ◌∷◌, ◌++◌, length, refl, ap, sym, ◌∙◌, arith}
 use Rattle.std.specs.Prelude.{slice_index_or}
-use Rattle.std.specs.List.{AllByRecursion}
 use Rattle.std.proofs.lemmas.List.{get_or_default}
 use Rattle.hv_machine.specs.Machine.{State, state_after}
 use Rattle.hv_event.specs.declared.event.ActorId.TheVariants.{Terminal}
@@ -12,24 +11,24 @@ use Rattle.hv_event.specs.declared.reply.Reply.{Reply}
 use Rattle.hv_event.specs.declared.reply.Reply.TheVariants as reply
 use Rattle.hv_model.specs.declared.entry.Entry.{Entry}
 use Rattle.hv_model.specs.Origin.{Origin}
-use Rattle.hv_model.specs.Terminal.{TerminalState, Scripts, Begun, next_in, begun, begun_boot, opened, line_begun, step_made, terminal_after, IsAtBootEnd}
+use Rattle.hv_model.specs.Terminal.{TerminalState, Scripts, next_in, begun_boot, line_begun, step_made, terminal_after, IsAtBootEnd}
 use Rattle.hv_model.specs.Rules.{machine}
-use Rattle.hv_model.specs.Legal.{start, own_at_start}
-use Rattle.hv_model.specs.Rounds.{is_over, terminal_has_ended, turn_of, TakesTurns}
+use Rattle.hv_model.specs.Legal.{start}
+use Rattle.hv_model.specs.Rounds.{is_over, terminal_has_ended}
 use Rattle.hv_rounds.specs.declared.files.FileCell.{FileCell}
 use Rattle.hv_rounds.specs.declared.terminal.Terminal.{Terminal as TerminalCell}
 use Rattle.hv_rounds.specs.declared.board.Board.{Board}
 use Rattle.hv_rounds.specs.Cells.{value_of}
-use Rattle.hv_rounds.specs.Step.{IsStep, FilesPart}
-use Rattle.hv_rounds.specs.Board.{at, IsBoardStep, Goes, IsTurn, EndedFrom, OpenFrom}
+use Rattle.hv_rounds.specs.Step.{IsStep}
+use Rattle.hv_rounds.specs.Board.{at, IsBoardStep, Goes, IsTurn}
 use Rattle.hv_rounds.specs.Phase.{BootPart, RoundsEnd}
-use Rattle.hv_rounds.proofs.Boards.{part-of, Part, leaves, takes}
+use Rattle.hv_rounds.proofs.Boards.{part-of, leaves, takes}
 use Rattle.hv_rounds.proofs.Goes.{goes-step, all-push}
 use Rattle.hv_rounds.proofs.Rounds.{last_terminals, TookTurns, turns-push, turns-end, round-begins, turn-taken, no-turn}
 
 -- the terminals of a board are four
 
-four-items : (b : Board) → length b.terminals.items ≡ 4
+pub four-items : (b : Board) → length b.terminals.items ≡ 4
 four-items b = omega (arith, b.four)
 
 one-of : (xs : List TerminalCell) → length xs ≡ 4 → TerminalCell
@@ -192,11 +191,11 @@ boot-step O made b b' e p s not_end =
     }
 
 -- a terminal whose boot script has not ended has not ended
-over-none : (n : Option (List ℕ × Scripts)) → is_over n ≡ true → n ≡ None
+pub over-none : (n : Option (List ℕ × Scripts)) → is_over n ≡ true → n ≡ None
 over-none None h = refl
 over-none (Some n) h = absurd (cc)
 
-and-both : (p q : Bool) → (p && q) ≡ true → (p ≡ true) × (q ≡ true)
+pub and-both : (p q : Bool) → (p && q) ≡ true → (p ≡ true) × (q ≡ true)
 and-both true true h = (refl, refl)
 and-both true false h = absurd (cc)
 and-both false q h = absurd (cc)
@@ -238,7 +237,7 @@ rounds-step O s before made from t b b' e le turns go turn made_step =
     record {
       goes = goes-step O s before made b b' t e d below go.goes made_step;
       took = turns-push O s [] (last_terminals (4 - from)) (last_terminals (4 - (t + 1))) made e go.took
-      (taken ∙ ap (λ a. Some (a, last_terminals (3 - t))) (sym actor_is) ∙ ap (λ n. Some (e.event.actor, last_terminals n)) left);
+          (taken ∙ ap (λ a. Some (a, last_terminals (3 - t))) (sym actor_is) ∙ ap (λ n. Some (e.event.actor, last_terminals n)) left);
     }
 
 pub rounds-over : (O : Origin) (s : State (machine O)) (before made : List Entry) (from : ℕ) (b : Board) → from ≤ 4 → O.opening.turns ≡ 0 → RoundsGo O s before made from b

@@ -1,13 +1,12 @@
 -- The first step of a line.
-use Rattle.std.proofs.Common.{◌≡◌, ◌≢◌, ℕ, zero, suc, ◌+◌, ◌-◌, ◌≤◌, nat_le, codes, List, [], ◌∷◌, length, Option, Some, None, Result, Ok, Err, refl, ap, sym, subst, ◌∙◌, arith}
-use Rattle.hv_text.specs.Number.{number_of}
+use Rattle.std.proofs.Common.{◌≡◌, ℕ, ◌+◌, nat_le, codes, List, [], ◌∷◌, length, Option, Some, Result, Ok, Err, refl, ap, sym, subst, ◌∙◌}
 use Rattle.hv_text.specs.Lines.{script_lines}
 use Rattle.hv_words.specs.declared.command.Command.{Command}
 use Rattle.hv_words.specs.declared.command.Command.TheVariants as command
 use Rattle.hv_words.specs.declared.refusal.WordsRefusal.{WordsRefusal}
 use Rattle.hv_words.specs.declared.refusal.WordsRefusal.TheVariants as line
-use Rattle.hv_words.specs.Words.{words, commands_of}
-use Rattle.hv_words.specs.Commands.{Says, Gives, FitAll, RestCount, NumberGiven, Kind, Argument}
+use Rattle.hv_words.specs.Words.{words}
+use Rattle.hv_words.specs.Commands.{Says, Gives, FitAll, RestCount, NumberGiven, Kind}
 use Rattle.hv_event.specs.declared.event.ActorId.TheVariants as actor
 use Rattle.hv_event.specs.declared.step.Step.{Step}
 use Rattle.hv_event.specs.declared.step.Step.TheVariants as step
@@ -19,14 +18,14 @@ use Rattle.hv_files.specs.declared.refusal.FileRefusal.{FileRefusal}
 use Rattle.hv_model.specs.declared.entry.Entry.{Entry}
 use Rattle.hv_model.specs.declared.entry.Carry.{Carry}
 use Rattle.hv_model.specs.Entry.{handed_over, nothing}
-use Rattle.hv_model.specs.Terminal.{TerminalState, Begun, begun, IsFirstStep, IsNextStep, TerminalReplies, TerminalAgrees, terminal_after, line_begun, step_made, rest_count, number_or_one, step_of, opened, scripts_of, RunAnswers}
+use Rattle.hv_model.specs.Terminal.{TerminalState, Begun, begun, IsFirstStep, IsNextStep, TerminalReplies, terminal_after, line_begun, step_made, rest_count, number_or_one, scripts_of, RunAnswers}
 use Rattle.hv_model.specs.Files.{FindsScript, answered}
 use Rattle.hv_fpart.specs.Part.{IsFilesStep}
 use Rattle.hv_rounds.specs.declared.files.FileCell.{FileCell}
 use Rattle.hv_rounds.specs.declared.terminal.Terminal.{Terminal}
 use Rattle.hv_rounds.specs.Cells.{value_of, MadeOne}
 use Rattle.hv_rounds.specs.Step.{IsStep, IsBegun, IsBadLine, FilesPart, TouchesFiles}
-use Rattle.hv_rounds.specs.Answer.{AnswersScript, IsOpened, RunOpens}
+use Rattle.hv_rounds.specs.Answer.{AnswersScript, RunOpens}
 
 -- the command that a terminal has begun
 abbrev pub begun_of : List ℕ → Terminal → Begun

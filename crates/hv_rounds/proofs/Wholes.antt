@@ -1,37 +1,28 @@
 -- The whole run.
-use Rattle.std.proofs.Common.{◌≡◌, ◌≢◌, ℕ, zero, suc, ◌+◌, ◌<◌, ◌≤◌, ◌^◌, max, Bool, true, false, eqb, eq-eqb, eqb-true, inl, inr, ◌⊎◌, Option, Some, None, List, [], ◌∷◌, ◌++◌, map, filter, length, refl, ap, sym, subst, ◌∙◌, arith}
-use Rattle.std.specs.Prelude.{slice_index_or, Any}
-use Rattle.std.specs.List.{AllByRecursion, range_with_len}
-use Rattle.std.proofs.lemmas.Bool.{ne_eqb, cases_lt}
-use Rattle.hv_machine.specs.Machine.{State, state_after, events_by}
-use Rattle.hv_machine.specs.Merging.{IsMerged}
-use Rattle.hv_machine.specs.Phases.{IsTwoPart}
+use Rattle.std.proofs.Common.{◌≡◌, ◌≢◌, ℕ, zero, suc, ◌<◌, ◌≤◌, Bool, true, false, eqb, eq-eqb, eqb-true, inl, List, [], ◌∷◌, ◌++◌, refl, ap, sym, subst, ◌∙◌, arith}
+use Rattle.std.specs.Prelude.{slice_index_or}
+use Rattle.std.specs.List.{AllByRecursion}
+use Rattle.std.proofs.lemmas.Bool.{ne_eqb}
+use Rattle.hv_machine.specs.Machine.{State}
 use Rattle.hv_machine.proofs.Lists.{all-map, append-nothing}
-use Rattle.hv_event.specs.declared.event.ActorId.{ActorId}
-use Rattle.hv_event.specs.declared.event.ActorId.TheVariants.{Hart, Terminal}
-use Rattle.hv_event.specs.declared.event.CellId.TheVariants as component
+use Rattle.hv_event.specs.declared.event.ActorId.TheVariants.{Terminal}
 use Rattle.hv_event.specs.declared.event.Event.{Event}
-use Rattle.hv_merge.specs.Merging.{AreLogs, IsLog}
+use Rattle.hv_merge.specs.Merging.{AreLogs}
 use Rattle.hv_model.specs.declared.entry.Entry.{Entry}
-use Rattle.hv_model.specs.Origin.{Origin, terminals}
-use Rattle.hv_model.specs.Cell.{Component, Actor, is_actor, rank_of}
+use Rattle.hv_model.specs.Origin.{Origin}
 use Rattle.hv_model.specs.Files.{load_files}
-use Rattle.hv_model.specs.Terminal.{TerminalState, next_in, IsAtBootEnd, IsAtEnd}
+use Rattle.hv_model.specs.Terminal.{TerminalState}
 use Rattle.hv_model.specs.Rules.{machine}
-use Rattle.hv_model.specs.Legal.{first, greatest_stamp, start, own_at_start, terminal_at_start, booted, begun, Leads, IsComplete, IsFinishedRun, IsStoppedRun}
-use Rattle.hv_model.specs.Rounds.{IsRounds, TakesTurns, terminal_has_ended, is_over}
-use Rattle.hv_model.specs.Report.{is_terminal, transcript}
-use Rattle.hv_model.proofs.RunLemmas.{made-leads, boot-leads, in-range-merged}
+use Rattle.hv_model.specs.Legal.{terminal_at_start, begun}
+use Rattle.hv_model.specs.Report.{is_terminal}
 use Rattle.hv_rounds.specs.declared.terminal.Terminal.{Terminal as TerminalCell}
 use Rattle.hv_rounds.specs.declared.board.Board.{Board}
-use Rattle.hv_rounds.specs.declared.whole.Outcome.{Outcome}
-use Rattle.hv_rounds.specs.Cells.{value_of, IsNew, BeginsAt}
-use Rattle.hv_rounds.specs.Board.{at, Goes, Holds, ShownAt, IsHeld, IsByTerminal, own_events, folded, FoundLast, EndedFrom, BeginTogether}
-use Rattle.hv_rounds.specs.Phase.{BootPart, BootEnds, RoundsEnd, IsBooted}
-use Rattle.hv_rounds.specs.Close.{logs_of, Closes}
-use Rattle.hv_rounds.specs.Outcome.{transcripts_of, IsFinished, IsSpent}
-use Rattle.hv_rounds.proofs.PhaseLemmas.{terminal_of, item-at}
-use Rattle.hv_rounds.proofs.Merged.{MergedEntries, merged-entries, own-in-merged, are-logs}
+use Rattle.hv_rounds.specs.Cells.{value_of, IsNew}
+use Rattle.hv_rounds.specs.Board.{at, Goes, ShownAt, IsHeld, own_events, folded, BeginTogether}
+use Rattle.hv_rounds.specs.Phase.{BootPart}
+use Rattle.hv_rounds.specs.Close.{logs_of}
+use Rattle.hv_rounds.proofs.PhaseLemmas.{terminal_of}
+use Rattle.hv_rounds.proofs.Merged.{are-logs}
 
 -- the board at the start
 

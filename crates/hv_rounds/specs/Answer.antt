@@ -4,7 +4,7 @@ use Rattle.hv_text.specs.Lines.{script_lines}
 use Rattle.hv_words.specs.Words.{commands_of}
 use Rattle.hv_event.specs.declared.reply.Refusal.{Refusal}
 use Rattle.hv_event.specs.declared.reply.Refusal.TheVariants as refusal
-use Rattle.hv_model.specs.Terminal.{Begun, opened}
+use Rattle.hv_model.specs.Terminal.{opened}
 use Rattle.hv_rounds.specs.declared.terminal.Terminal.{Terminal}
 
 -- the reply is what was found, or TooDeep or TooLong, and the lines are counted where a script was found

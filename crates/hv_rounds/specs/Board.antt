@@ -1,8 +1,7 @@
 -- The cells of a run, and what they mean in the abstract machine.
-use Rattle.std.specs.Prelude.{◌≡◌, ◌≢◌, ◌⊎◌, ℕ, ◌+◌, ◌-◌, ◌<◌, ◌≤◌, ◌^◌, max, Bool, true, false, Option, Some, None, List, [], ◌∷◌, ◌++◌, map, filter, Any, slice_index_or}
+use Rattle.std.specs.Prelude.{◌≡◌, ◌≢◌, ◌⊎◌, ℕ, ◌<◌, ◌≤◌, max, true, false, Option, Some, None, List, [], ◌∷◌, ◌++◌, map, filter, Any, slice_index_or}
 use Rattle.std.specs.List.{AllByRecursion}
-use Rattle.hv_machine.specs.Machine.{State, next_state, state_after, IsRun}
-use Rattle.hv_event.specs.declared.event.ActorId.{ActorId}
+use Rattle.hv_machine.specs.Machine.{State, state_after, IsRun}
 use Rattle.hv_event.specs.declared.event.ActorId.TheVariants.{Hart, Terminal}
 use Rattle.hv_event.specs.declared.event.CellId.TheVariants as component
 use Rattle.hv_event.specs.declared.event.Event.{Event}
@@ -10,12 +9,11 @@ use Rattle.hv_merge.specs.Merging.{IsLog}
 use Rattle.hv_model.specs.declared.entry.Entry.{Entry}
 use Rattle.hv_model.specs.Origin.{Origin}
 use Rattle.hv_model.specs.Cell.{Component, Actor}
-use Rattle.hv_model.specs.Terminal.{TerminalState, terminal_after, IsAtBootEnd}
+use Rattle.hv_model.specs.Terminal.{TerminalState, terminal_after}
 use Rattle.hv_model.specs.Rules.{machine}
-use Rattle.hv_model.specs.Legal.{greatest_stamp, own_at_start, terminal_at_start}
-use Rattle.hv_model.specs.Rounds.{turn_of, terminal_has_ended}
+use Rattle.hv_model.specs.Legal.{greatest_stamp, terminal_at_start}
+use Rattle.hv_model.specs.Rounds.{terminal_has_ended}
 use Rattle.hv_model.specs.Report.{transcript, is_terminal, event_shown}
-use Rattle.hv_rounds.specs.declared.files.FileCell.{FileCell}
 use Rattle.hv_rounds.specs.declared.terminal.Terminal.{Terminal as TerminalCell}
 use Rattle.hv_rounds.specs.declared.board.Board.{Board}
 use Rattle.hv_rounds.specs.Cells.{value_of, BeginsAt}

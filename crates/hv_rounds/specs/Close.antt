@@ -1,5 +1,5 @@
 -- A board that is closed.
-use Rattle.std.specs.Prelude.{◌≡◌, ℕ, Option, List, [], ◌∷◌, ◌++◌, map}
+use Rattle.std.specs.Prelude.{◌≡◌, ℕ, Option, List, [], ◌∷◌, map}
 use Rattle.hv_event.specs.declared.event.Event.{Event}
 use Rattle.hv_merge.specs.Merging.{IsMergeOf}
 use Rattle.hv_model.specs.declared.entry.Entry.{Entry}

@@ -1,8 +1,7 @@
 -- What a run in rounds leaves.
 use Rattle.std.specs.Prelude.{◌≡◌, ℕ, ◌<◌, ◌≤◌, Option, Some, None, List, map, filter, Any}
 use Rattle.hv_event.specs.declared.event.Event.{Event}
-use Rattle.hv_model.specs.declared.opening.Opening.{Opening}
-use Rattle.hv_model.specs.Origin.{Origin, origin_of, terminals}
+use Rattle.hv_model.specs.Origin.{Origin, terminals}
 use Rattle.hv_model.specs.Legal.{IsFinishedRun, IsStoppedRun, greatest_stamp, terminal_at_start, lines_at_start}
 use Rattle.hv_model.specs.Rounds.{IsRounds}
 use Rattle.hv_model.specs.Report.{transcript, is_terminal}

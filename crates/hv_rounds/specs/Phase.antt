@@ -1,5 +1,5 @@
 -- What the phases of a run leave.
-use Rattle.std.specs.Prelude.{◌≡◌, ℕ, ◌+◌, ◌<◌, Option, Some, None, List, [], ◌∷◌, true}
+use Rattle.std.specs.Prelude.{◌≡◌, ℕ, Option, Some, None, List, []}
 use Rattle.std.specs.List.{AllByRecursion}
 use Rattle.hv_machine.specs.Machine.{State}
 use Rattle.hv_event.specs.declared.event.ActorId.TheVariants.{Terminal}
@@ -8,7 +8,7 @@ use Rattle.hv_model.specs.Origin.{Origin}
 use Rattle.hv_model.specs.Rules.{machine}
 use Rattle.hv_model.specs.Terminal.{IsAtBootEnd}
 use Rattle.hv_model.specs.Legal.{start, own_at_start}
-use Rattle.hv_model.specs.Rounds.{TakesTurns, terminal_has_ended}
+use Rattle.hv_model.specs.Rounds.{TakesTurns}
 use Rattle.hv_rounds.specs.declared.terminal.Terminal.{Terminal as TerminalCell}
 use Rattle.hv_rounds.specs.declared.board.Board.{Board}
 use Rattle.hv_rounds.specs.Cells.{value_of}

@@ -1,5 +1,5 @@
 -- One step of a terminal over the files.
-use Rattle.std.specs.Prelude.{◌≡◌, ℕ, ◌+◌, ◌^◌, max, Option, Some, None, Result, Ok, Err, List}
+use Rattle.std.specs.Prelude.{◌≡◌, ℕ, ◌+◌, ◌^◌, max, Option, Some, Result, Err, List}
 use Rattle.hv_event.specs.declared.event.ActorId.TheVariants as actor
 use Rattle.hv_event.specs.declared.step.Step.{Step}
 use Rattle.hv_event.specs.declared.step.Step.TheVariants as step

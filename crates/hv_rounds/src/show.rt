@@ -60,7 +60,11 @@ fn push_done(to: &mut Bytes) -> Result<(), AllocError>
     to.append(b"< ok\n")
 }
 
-fn push_listed(alloc: Global, to: &mut Bytes, answer: &Result<Strings, Refusal>) -> Result<(), AllocError>
+fn push_listed(
+    alloc: Global,
+    to: &mut Bytes,
+    answer: &Result<Strings, Refusal>,
+) -> Result<(), AllocError>
     ensures { OnOk result (to.new ≡ to.old ++ answer_shown names_shown answer.now) }
 {
     match answer {
@@ -72,7 +76,11 @@ fn push_listed(alloc: Global, to: &mut Bytes, answer: &Result<Strings, Refusal>)
     }
 }
 
-fn push_read(alloc: Global, to: &mut Bytes, answer: &Result<Bytes, Refusal>) -> Result<(), AllocError>
+fn push_read(
+    alloc: Global,
+    to: &mut Bytes,
+    answer: &Result<Bytes, Refusal>,
+) -> Result<(), AllocError>
     ensures { OnOk result (to.new ≡ to.old ++ answer_shown shown answer.now) }
 {
     match answer {
@@ -84,7 +92,11 @@ fn push_read(alloc: Global, to: &mut Bytes, answer: &Result<Bytes, Refusal>) -> 
     }
 }
 
-fn push_run(alloc: Global, to: &mut Bytes, answer: &Result<Bytes, Refusal>) -> Result<(), AllocError>
+fn push_run(
+    alloc: Global,
+    to: &mut Bytes,
+    answer: &Result<Bytes, Refusal>,
+) -> Result<(), AllocError>
     ensures { OnOk result (to.new ≡ to.old ++ answer_shown nothing_shown answer.now) }
 {
     match answer {
@@ -93,7 +105,11 @@ fn push_run(alloc: Global, to: &mut Bytes, answer: &Result<Bytes, Refusal>) -> R
     }
 }
 
-fn push_changed(alloc: Global, to: &mut Bytes, answer: &Result<(), Refusal>) -> Result<(), AllocError>
+fn push_changed(
+    alloc: Global,
+    to: &mut Bytes,
+    answer: &Result<(), Refusal>,
+) -> Result<(), AllocError>
     ensures { OnOk result (to.new ≡ to.old ++ answer_shown nothing_shown answer.now) }
 {
     match answer {

@@ -135,7 +135,13 @@ fn step_command(
         }
         Command::VfsRm(path) => step_files(alloc, files, terminal, line, Step::Rm(Rm { path })),
         Command::VfsWrite(path, bytes) => {
-            step_files(alloc, files, terminal, line, Step::Write(Write { path, bytes }))
+            step_files(
+                alloc,
+                files,
+                terminal,
+                line,
+                Step::Write(Write { path, bytes }),
+            )
         }
         Command::VfsRun(path) => step_run(alloc, files, terminal, line, path),
         Command::TermRest(count) => rest_first(files, terminal, line, count),

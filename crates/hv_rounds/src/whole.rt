@@ -83,10 +83,7 @@ fn close(
         files,
         terminals: _,
     } = board;
-    let FileCell {
-        tree,
-        stamp: _,
-    } = files;
+    let FileCell { tree, stamp: _ } = files;
     Ok(Outcome {
         history,
         files: tree,

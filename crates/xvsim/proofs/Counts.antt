@@ -96,7 +96,7 @@ greatest_lines_are files scripts a b c d is first second third fourth =
     let l2 : lines_of files 2 ≡ c = omega (arith, lines_of_third files scripts is, third) in
     let l3 : lines_of files 3 ≡ d = omega (arith, lines_of_fourth files scripts is, fourth) in
     sym (ap (λ n. max n (max (lines_of files 1) (max (lines_of files 2) (max (lines_of files 3) 0)))) l0
-      ∙ ap (λ n. max a (max n (max (lines_of files 2) (max (lines_of files 3) 0)))) l1
-      ∙ ap (λ n. max a (max b (max n (max (lines_of files 3) 0)))) l2
-      ∙ ap (λ n. max a (max b (max c (max n 0)))) l3
-      ∙ greatest_of_four a b c d)
+    ∙ ap (λ n. max a (max n (max (lines_of files 2) (max (lines_of files 3) 0)))) l1
+    ∙ ap (λ n. max a (max b (max n (max (lines_of files 3) 0)))) l2
+    ∙ ap (λ n. max a (max b (max c (max n 0)))) l3
+    ∙ greatest_of_four a b c d)

@@ -11,5 +11,5 @@ titled_some title (b ∷ bs) some = refl
 -- a report's parts, as they are appended one after the other
 pub report_parts : (heading terminals events count : List ℕ)
     → (((((heading ++ terminals) ++ (codes "states" ++ 10 ∷ [] ++ codes "vcpu 0 Reset" ++ 10 ∷ [] ++ codes "history" ++ 10 ∷ [])) ++ events) ++ codes "end ") ++ count) ++ 10 ∷ []
-      ≡ heading ++ terminals ++ states_text false ++ (line (codes "history") ++ events) ++ line (codes "end " ++ count)
+    ≡ heading ++ terminals ++ states_text false ++ (line (codes "history") ++ events) ++ line (codes "end " ++ count)
 report_parts heading terminals events count = simp append_assoc refl

@@ -18,6 +18,5 @@ pub use kept::{Final, Kept, KeptRun};
 pub use status::Status;
 pub use top::xvsim;
 
-
 #[cfg(test)]
 mod tests;

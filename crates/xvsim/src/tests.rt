@@ -52,7 +52,11 @@ fn shows_a_file_whatever_the_pieces(rt: HostRuntime) -> Result<(), Fail> {
     for piece in [1, 100] {
         let done = call(rt.alloc(), &WORDS, HELLO, piece, &[], &[])?;
         assert_eq!(rt; done.status, Status::Done);
-        assert_eq!(rt; done.written.as_slice(), HELLO_REPORT, "in pieces of {piece}");
+        assert_eq!(rt;
+            done.written.as_slice(),
+            HELLO_REPORT,
+            "in pieces of {piece}"
+        );
         assert!(rt; done.is_kept);
     }
     Ok(())
@@ -142,7 +146,13 @@ fn answers_limits_one_past_each(rt: HostRuntime) -> Result<(), Fail> {
     ];
     for (text, name, number) in &cases {
         let refused = call(alloc, &WORDS, text.as_slice(), 4096, &[], &[])?;
-        assert_eq!(rt; refused.status, Status::Limit { name: *name, number: *number });
+        assert_eq!(rt;
+            refused.status,
+            Status::Limit {
+                name: *name,
+                number: *number
+            }
+        );
     }
     Ok(())
 }

@@ -20,7 +20,6 @@ use std::alloc::Global;
 
 const MOST_BYTES: usize = 67_108_864;
 
-
 /// Carries out the command that the words name.
 pub fn xvsim<S: Source, K: Sink>(
     alloc: Global,
@@ -59,7 +58,10 @@ pub fn xvsim<S: Source, K: Sink>(
     let bytes = match read_all(alloc, source, MOST_BYTES) {
         Ok(bytes) => bytes,
         Err(ReadEnd::Fault) => return Status::ReadFault,
-        Err(ReadEnd::TooMany) => return Status::Limit { name: LimitName::Bytes, number: 67_108_865 },
+        Err(ReadEnd::TooMany) => return Status::Limit {
+            name: LimitName::Bytes,
+            number: 67_108_865,
+        },
         Err(ReadEnd::Memory(_)) => return Status::OutOfMemory,
     };
     let files = match read_bundle(alloc, &bytes) {

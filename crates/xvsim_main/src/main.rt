@@ -50,9 +50,7 @@ fn tell(rt: &impl Eprint, status: Status) -> io::Result<()> {
         Status::ReadFault => eprintln!(rt; "xvsim: read fault"),
         Status::WriteFault => eprintln!(rt; "xvsim: write fault"),
         Status::BadBundle { offset } => eprintln!(rt; "xvsim: bad bundle at {offset}"),
-        Status::Limit { name, number } => {
-            eprintln!(rt; "xvsim: limit {} {number}", name.name())
-        }
+        Status::Limit { name, number } => { eprintln!(rt; "xvsim: limit {} {number}", name.name()) }
         Status::StampsSpent { .. } => eprintln!(rt; "xvsim: stamps spent"),
         Status::OutOfMemory => eprintln!(rt; "xvsim: out of memory"),
         Status::NotBuilt => eprintln!(rt; "xvsim: not built"),

@@ -1,6 +1,5 @@
-use Rattle.std.proofs.Common.{◌≡◌, ℕ, List, Err, ap, sym, subst, lit<}
+use Rattle.std.proofs.Common.{ℕ, Err, ap, sym, subst, lit<}
 use Rattle.std.proofs.lemmas.Bool.{false≢true}
-use Rattle.hv_model.specs.declared.entry.Entry.{Entry}
 use Rattle.hv_model.specs.Terminal.{IsAtBootEnd}
 use Rattle.hv_rounds.specs.declared.terminal.Terminal.{Terminal}
 use Rattle.hv_rounds.specs.Cells.{value_of}

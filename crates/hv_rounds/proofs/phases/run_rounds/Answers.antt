@@ -1,7 +1,5 @@
-use Rattle.std.proofs.Common.{◌≡◌, ℕ, List, Err, ap, sym, subst, arith}
-use Rattle.hv_model.specs.declared.entry.Entry.{Entry}
-use Rattle.hv_rounds.specs.Board.{IsTurn}
-use Rattle.hv_rounds.specs.Board.{at, FoundLast}
+use Rattle.std.proofs.Common.{ℕ, Err, ap, sym, subst, arith}
+use Rattle.hv_rounds.specs.Board.{FoundLast}
 use Rattle.hv_rounds.proofs.PhaseLemmas.{open-not-ended, rounds-step, rounds-over}
 use Rattle.hv_rounds.proofs.PhaseLemmas.{rounds-init as at-first, rounds-smaller as stamps-rise}
 use Rattle.hv_rounds.proofs.phases.run_rounds.Goals as goal

@@ -1,10 +1,8 @@
-use Rattle.std.proofs.Common.{◌≡◌, ℕ, ◌+◌, ◌-◌, Ok, refl, ap, sym, subst, ◌∙◌, arith}
+use Rattle.std.proofs.Common.{◌+◌, ◌-◌, Ok, refl, ap, sym, subst, ◌∙◌, arith}
 use Rattle.hv_words.specs.declared.command.Command.TheVariants as command
-use Rattle.hv_words.specs.Words.{words}
 use Rattle.hv_model.specs.declared.entry.Entry.{Entry}
-use Rattle.hv_model.specs.Terminal.{rest_count}
 use Rattle.hv_rounds.specs.Step.{IsStep}
-use Rattle.hv_rounds.proofs.Steps.{first-step, made-value, rests-as-given}
+use Rattle.hv_rounds.proofs.Steps.{first-step, rests-as-given}
 use Rattle.hv_rounds.proofs.step.rest_first.Goals as goal
 
 pub returns-clause-ok : goal.returns-clause-ok

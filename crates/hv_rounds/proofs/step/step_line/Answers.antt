@@ -1,4 +1,4 @@
-use Rattle.std.proofs.Common.{◌≡◌, ℕ, List, subst, sym}
+use Rattle.std.proofs.Common.{ℕ, List, subst}
 use Rattle.std.specs.Prelude.{IfOk}
 use Rattle.hv_words.specs.Commands.{IsNoCommand}
 use Rattle.hv_rounds.specs.declared.terminal.Terminal.{Terminal}

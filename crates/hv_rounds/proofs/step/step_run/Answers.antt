@@ -1,4 +1,4 @@
-use Rattle.std.proofs.Common.{◌≡◌, ℕ, ◌+◌, Ok, refl, ap, sym, subst, ◌∙◌}
+use Rattle.std.proofs.Common.{◌+◌, Ok, refl, ap, sym, subst, ◌∙◌}
 use Rattle.hv_words.specs.declared.command.Command.TheVariants as command
 use Rattle.hv_event.specs.declared.event.ActorId.TheVariants as actor
 use Rattle.hv_model.specs.declared.entry.Entry.{Entry}
