@@ -9,19 +9,29 @@ use std::io::Write;
 use std::process::ExitCode;
 use xvsim::{Kept, Status, xvsim};
 
-fn words(rt: &(impl Env + AllocGlobal)) -> Option<Vec<String>> {
+/// The words behind the program's name. Words that are no text are wrong words.
+fn words(rt: &(impl Env + AllocGlobal)) -> Result<Vec<String>, Status> {
     let mut words = Vec::new(rt.alloc());
-    let mut args = env::args(rt).ok()?;
+    let mut args = match env::args(rt) {
+        Ok(args) => args,
+        Err(error) if error.kind() == io::ErrorKind::OutOfMemory => {
+            return Err(Status::OutOfMemory);
+        }
+        Err(_) => return Err(Status::Usage),
+    };
     let _program = args.next();
     for word in args {
-        words.push(word).ok()?;
+        if words.push(word).is_err() {
+            return Err(Status::OutOfMemory);
+        }
     }
-    Some(words)
+    Ok(words)
 }
 
 fn status_of(rt: &(impl Env + AllocGlobal + Input + Print)) -> Status {
-    let Some(words) = words(rt) else {
-        return Status::Usage;
+    let words = match words(rt) {
+        Ok(words) => words,
+        Err(status) => return status,
     };
     let mut source = InSource::new(rt.reader());
     let mut sink = OutSink::new(io::writer(rt));
