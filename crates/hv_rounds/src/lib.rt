@@ -12,6 +12,8 @@ mod split;
 mod step;
 mod stop;
 mod terminal;
+#[cfg(test)]
+mod tests;
 mod turn;
 mod whole;
 
