@@ -49,6 +49,10 @@ abbrev pub lines : List (List ℕ) → List ℕ
 lines [] = []
 lines (l ∷ ls) = l ++ 10 ∷ lines ls
 
+-- What Terminal 0 shows.
+abbrev pub transcript : List ℕ
+transcript = lines (codes "> vfs cat /hello" ∷ codes "hi" ∷ codes "< ok" ∷ [])
+
 -- The report of the hello bundle.
 abbrev pub text : List ℕ
 text = lines (

@@ -1,5 +1,5 @@
 -- The report of a history: what each terminal shows, the states of the VCPUs, and the events.
-use Rattle.std.specs.Prelude.{ℕ, ◌==◌, Bool, if◌then◌else◌, Result, Ok, Err, List, [], ◌∷◌, ◌++◌, filter, length, codes, Option, None, Some, zero, suc, ◌-◌, slice_index}
+use Rattle.std.specs.Prelude.{◌≡◌, ℕ, ◌==◌, Bool, if◌then◌else◌, Result, Ok, Err, List, [], ◌∷◌, ◌++◌, filter, length, codes, Option, None, Some, zero, suc, ◌-◌, slice_index}
 use Rattle.std.specs.Fmt.{decimal}
 use Rattle.std.specs.List.{flat_map}
 use Rattle.hv_event.specs.declared.event.ActorId.{ActorId}
@@ -56,19 +56,26 @@ begin_shown (suc n) b = []
 begin_shown zero None = []
 begin_shown zero (Some b) = line (codes "> " ++ b.line)
 
+-- What the reply to a command may show.
+abbrev pub ShowsReply : Reply → List ℕ → Type 0
+ShowsReply r text = text ≡ reply_shown r
+
 -- A line that is done shows what came of it.
-abbrev pub end_shown : ℕ → Reply → List ℕ
-end_shown (suc n) r = []
-end_shown zero r = reply_shown r
+abbrev pub ShowsEnd : ℕ → Reply → List ℕ → Type 0
+ShowsEnd (suc n) r text = text ≡ []
+ShowsEnd zero r text = ShowsReply r text
 
 -- What an event of a terminal shows.
-abbrev pub event_shown : TerminalState → Event → List ℕ
-event_shown t e = begin_shown t.rests (begun t) ++ end_shown (terminal_after t e).rests e.reply
+pub record ShowsEvent (t : TerminalState) (e : Event) (text : List ℕ) : Type 0 where
+  pub behind : List ℕ
+  pub ends : ShowsEnd (terminal_after t e).rests e.reply behind
+  pub text_is : text ≡ begin_shown t.rests (begun t) ++ behind
 
 -- A terminal's transcript is what its events show, one after the other.
-abbrev pub transcript : TerminalState → List Event → List ℕ
-transcript t [] = []
-transcript t (e ∷ es) = event_shown t e ++ transcript (terminal_after t e) es
+abbrev pub IsTranscript : TerminalState → List Event → List ℕ → Type 0
+IsTranscript t [] text = text ≡ []
+IsTranscript t (e ∷ es) text =
+    (here later : List ℕ) × (text ≡ here ++ later) × ShowsEvent t e here × IsTranscript (terminal_after t e) es later
 
 -- Whether an actor is this terminal.
 abbrev pub is_terminal : ℕ → ActorId → Bool
@@ -80,11 +87,20 @@ abbrev pub titled : List ℕ → List ℕ → List ℕ
 titled title [] = []
 titled title (b ∷ bs) = title ++ b ∷ bs
 
+-- The events of a terminal.
+abbrev pub events_of : ℕ → List Event → List Event
+events_of t H = filter (λ e. is_terminal t e.actor) H
+
+-- Of some terminals, these are the transcripts.
+abbrev pub AreTranscripts : Origin → List Event → List ℕ → List (List ℕ) → Type 0
+AreTranscripts O H [] [] = Unit {0}
+AreTranscripts O H (t ∷ ts) (text ∷ texts) = IsTranscript (terminal_at_start O t) (events_of t H) text × AreTranscripts O H ts texts
+AreTranscripts O H ts texts = ⊥
+
 -- A terminal that began a command has a title and its transcript.
-abbrev pub terminal_text : Origin → List Event → ℕ → List ℕ
-terminal_text O H t =
-    titled (line (codes "term " ++ decimal t))
-    (transcript (terminal_at_start O t) (filter (λ e. is_terminal t e.actor) H))
+abbrev pub terminals_text : List ℕ → List (List ℕ) → List ℕ
+terminals_text (t ∷ ts) (text ∷ texts) = titled (line (codes "term " ++ decimal t)) text ++ terminals_text ts texts
+terminals_text ts texts = []
 
 -- The run's order is named by its word.
 abbrev pub order_text : Bool → List ℕ
@@ -104,11 +120,18 @@ states_text brief = line (codes "states") ++ line (if brief then codes "vcpu 0 1
 abbrev pub history_text : List Event → List ℕ
 history_text H = line (codes "history") ++ flat_map (λ e. line (event_text e)) H
 
--- The report: the heading, the terminals, the states, the history unless it is brief, and the number of events.
-abbrev pub report : Origin → List Event → Bool → Bool → List ℕ
-report O H threads brief =
+-- A report with these transcripts: the heading, the terminals, the states, the history unless it is brief, and the
+-- number of events.
+abbrev pub report_with : List (List ℕ) → Origin → List Event → Bool → Bool → List ℕ
+report_with texts O H threads brief =
     heading O threads
-    ++ flat_map (terminal_text O H) terminals
+    ++ terminals_text terminals texts
     ++ states_text brief
     ++ (if brief then [] else history_text H)
     ++ line (codes "end " ++ decimal (length H))
+
+-- A text is the report of a history.
+pub record IsReport (O : Origin) (H : List Event) (threads brief : Bool) (text : List ℕ) : Type 0 where
+  pub transcripts : List (List ℕ)
+  pub shown : AreTranscripts O H terminals transcripts
+  pub text_is : text ≡ report_with transcripts O H threads brief

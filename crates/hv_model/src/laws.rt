@@ -1,7 +1,7 @@
 //! Laws of the definitions, each the contract of a function that does nothing.
 ghost use Rattle.std.specs.Prelude.{[], ◌∷◌, ◌≡◌, false};
 ghost use Rattle.hv_model.specs.Legal.{Legal, Complete};
-ghost use Rattle.hv_model.specs.Report.{report};
+ghost use Rattle.hv_model.specs.Report.{IsReport};
 ghost use Rattle.hv_model.specs.Board.{ClosedBoardIsLegal};
 ghost use Rattle.hv_model.specs.Rounds.{RoundsAreLegal};
 ghost use Rattle.hv_model.specs.Example as example;
@@ -13,7 +13,7 @@ pub fn hello_example()
     ensures other_byte { Legal example.origin (example.other_byte ∷ []) → ⊥ }
     ensures other_stamp { Legal example.origin (example.other_stamp ∷ []) → ⊥ }
     ensures other_index { Legal example.origin (example.other_index ∷ []) → ⊥ }
-    ensures report { report example.origin example.history false false ≡ example.text }
+    ensures report { IsReport example.origin example.history false false example.text }
 {}
 
 /// What the actors and the components of a closed board hold, merged, is a legal history.

@@ -2,7 +2,7 @@
 ghost use Rattle.std.specs.Prelude.{◌≡◌};
 
 use hv_bundle::File;
-use hv_text::Bytes;
+use hv_text::Strings;
 use std::marker::Model;
 
 /// The files of a bundle, which contracts see as their list.
@@ -36,36 +36,6 @@ impl Files {
     }
 }
 
-/// The scripts of the terminals, which contracts see as the list of their bytes.
-#[derive(Debug, Drop)]
-pub struct Scripts {
-    items: Vec<Bytes>,
-}
-
-impl Model for Scripts {
-    ghost use Rattle.std.specs.Prelude.{ℕ, List};
-
-    ghost Value = { List (List ℕ) };
-
-    ghost view = { λ s. s.items.items };
-}
-
-impl Scripts {
-    /// These scripts.
-    pub fn from_vec(items: Vec<Bytes>) -> Scripts
-        ensures { result ≡ items.items }
-    {
-        Scripts { items }
-    }
-
-    /// The scripts as a slice.
-    pub fn as_slice(&self) -> &[Bytes]
-        ensures { result.now ≡ self.now }
-    {
-        &self.items
-    }
-}
-
 /// What a run begins with: how many harts, how many turns each makes, the files, and the scripts:
 /// the boot script first, and then those of Terminal 0 upwards.
 #[derive(Debug, Drop)]
@@ -73,5 +43,5 @@ pub struct Opening {
     pub harts: u32,
     pub turns: u32,
     pub files: Files,
-    pub scripts: Scripts,
+    pub scripts: Strings,
 }

@@ -11,14 +11,14 @@ use Rattle.hv_event.specs.declared.event.ActorId.TheVariants.{Hart, Terminal}
 use Rattle.hv_event.specs.declared.event.Event.{Event}
 use Rattle.hv_merge.specs.Merging.{AreLogs, IsMergeOf}
 use Rattle.hv_model.specs.declared.entry.Entry.{Entry}
-use Rattle.hv_model.specs.Origin.{Origin}
+use Rattle.hv_model.specs.Origin.{Origin, terminals}
 use Rattle.hv_model.specs.Cell.{Actor, is_actor, same_actor}
 use Rattle.hv_model.specs.CellLaws.{same_actor-self}
 use Rattle.hv_model.specs.Terminal.{TerminalState, next_in, IsAtBootEnd, IsAtEnd}
 use Rattle.hv_model.specs.Rules.{machine}
 use Rattle.hv_model.specs.Legal.{first, greatest_stamp, start, own_at_start, terminal_at_start, booted, begun, Leads, IsComplete}
 use Rattle.hv_model.specs.Rounds.{TakesTurns, terminal_has_ended, is_over}
-use Rattle.hv_model.specs.Report.{is_terminal, transcript}
+use Rattle.hv_model.specs.Report.{is_terminal, events_of, IsTranscript, AreTranscripts}
 use Rattle.hv_model.proofs.RunLemmas.{made-leads, boot-leads, in-range-merged}
 use Rattle.hv_rounds.specs.declared.terminal.Terminal.{Terminal as TerminalCell}
 use Rattle.hv_rounds.specs.declared.board.Board.{Board}
@@ -27,7 +27,7 @@ use Rattle.hv_rounds.specs.Cells.{value_of}
 use Rattle.hv_rounds.specs.Board.{at, Goes, IsHeld, IsByTerminal, FoundLast, EndedFrom}
 use Rattle.hv_rounds.specs.Phase.{BootPart, BootEnds, RoundsEnd, IsBooted}
 use Rattle.hv_rounds.specs.Close.{logs_of, Closes}
-use Rattle.hv_rounds.specs.Outcome.{transcripts_of, IsFinished, IsSpent, IsOutcome}
+use Rattle.hv_rounds.specs.Outcome.{IsFinished, IsSpent, IsOutcome}
 use Rattle.hv_rounds.proofs.PhaseLemmas.{terminal_of, four-items, over-none, and-both}
 use Rattle.hv_rounds.proofs.Merged.{MergedEntries, merged-entries, own-in-merged, entries_by, by-here, by-other}
 use Rattle.hv_rounds.proofs.Wholes.{goes-logs}
@@ -124,18 +124,15 @@ all-join P (x ∷ xs) ys h k = (h.0, all-join P xs ys h.1 k)
 all-four : (P : ℕ → Type 0) → P 0 → P 1 → P 2 → P 3 → AllByRecursion P (0 ∷ 1 ∷ 2 ∷ 3 ∷ [])
 all-four P a b c d = (a, (b, (c, (d, tt))))
 
-map-four : (xs : List TerminalCell) → length xs ≡ 4 → (f : ℕ → List ℕ) → ((t : ℕ) (d : TerminalCell) → t < 4 → (slice_index_or xs t d).shown ≡ f t) → map (λ x. x.shown) xs ≡ f 0 ∷ f 1 ∷ f 2 ∷ f 3 ∷ []
-map-four [] four f h = absurd (omega arith)
-map-four (x ∷ []) four f h = absurd (omega arith)
-map-four (x ∷ y ∷ []) four f h = absurd (omega arith)
-map-four (x ∷ y ∷ z ∷ []) four f h = absurd (omega arith)
-map-four (x ∷ y ∷ z ∷ w ∷ []) four f h =
-    let a = h 0 x (omega arith) in
-    let b = h 1 x (omega arith) in
-    let c = h 2 x (omega arith) in
-    let d = h 3 x (omega arith) in
-    rw (a, b, c, d) refl
-map-four (x ∷ y ∷ z ∷ w ∷ v ∷ xs) four f h = absurd (omega arith)
+four-transcripts : (O : Origin) (H : List Event) (xs : List TerminalCell) → length xs ≡ 4
+    → ((t : ℕ) (d : TerminalCell) → t < 4 → IsTranscript (terminal_at_start O t) (events_of t H) (slice_index_or xs t d).shown)
+    → AreTranscripts O H terminals (map (λ x. x.shown) xs)
+four-transcripts O H [] four h = absurd (omega arith)
+four-transcripts O H (x ∷ []) four h = absurd (omega arith)
+four-transcripts O H (x ∷ y ∷ []) four h = absurd (omega arith)
+four-transcripts O H (x ∷ y ∷ z ∷ []) four h = absurd (omega arith)
+four-transcripts O H (x ∷ y ∷ z ∷ w ∷ []) four h = (h 0 x (omega arith), (h 1 x (omega arith), (h 2 x (omega arith), (h 3 x (omega arith), tt))))
+four-transcripts O H (x ∷ y ∷ z ∷ w ∷ v ∷ xs) four h = absurd (omega arith)
 
 module _ (O : Origin) (boot : List Entry) (b : Board) (p : BootPart O boot b) where
   boot-value : (d : TerminalCell) → (booted O boot first).value ≡ value_of (at b 0 d)
@@ -212,10 +209,11 @@ module _ (O : Origin) (boot : List Entry) (b : Board) (p : BootPart O boot b) wh
         }
 
     -- what the terminals have shown
-    shown : (H : List Event) → IsMergeOf (logs_of (boot ++ made)) H → map (λ x. x.shown) c.terminals.items ≡ transcripts_of O H
+    shown : (H : List Event) → IsMergeOf (logs_of (boot ++ made)) H → AreTranscripts O H terminals (map (λ x. x.shown) c.terminals.items)
     shown H merge =
-        map-four c.terminals.items (four-items c) (λ t. transcript (terminal_at_start O t) (filter (λ e. is_terminal t e.actor) H)) (λ t d lt.
-        (g.shown t d lt).shown ∙ ap (transcript (terminal_at_start O t)) (sym (own-in-merged (boot ++ made) H both-by merge t)))
+        four-transcripts O H c.terminals.items (four-items c) (λ t d lt.
+        (let Script : List Event → Type 0 = λ own. IsTranscript (terminal_at_start O t) own (at c t d).shown in
+        subst Script (sym (own-in-merged (boot ++ made) H both-by merge t)) (g.shown t d lt).shown))
 
     -- a run that came to its end
     pub finished : (o : Outcome) → O.opening.turns ≡ 0 → TakesTurns O (begun O boot) [] made → EndedFrom c 0 → Closes c (boot ++ made) None o → IsFinished O o
@@ -240,7 +238,7 @@ module _ (O : Origin) (boot : List Entry) (b : Board) (p : BootPart O boot b) wh
             events = merged.events;
             in_range = in-range-merged O (boot ++ made) merged.all merged.merged both-range;
           };
-          shown = k.shown ∙ shown o.history.items k.history;
+          shown = subst (AreTranscripts O o.history.items terminals) (sym k.shown) (shown o.history.items k.history);
         }
 
 -- outcomes

@@ -6,7 +6,7 @@ use Rattle.std.proofs.lemmas.Bool.{ne_eqb}
 use Rattle.std.proofs.lemmas.List.Quantifiers.{Any-push}
 use Rattle.std.proofs.lemmas.List.{get_or_append_left}
 use Rattle.hv_machine.specs.Machine.{Machine, State, next_state, state_after, IsRun, MayHappen}
-use Rattle.hv_machine.proofs.Lists.{filter-append, all-map}
+use Rattle.hv_machine.proofs.Lists.{append-nothing, filter-append, all-map}
 use Rattle.hv_merge.specs.Merging.{IsLog, IsFollowedBy}
 use Rattle.hv_event.specs.declared.event.ActorId.TheVariants.{Terminal}
 use Rattle.hv_event.specs.declared.event.Event.{Event}
@@ -15,12 +15,12 @@ use Rattle.hv_model.specs.Origin.{Origin}
 use Rattle.hv_model.specs.Terminal.{TerminalState, terminal_after}
 use Rattle.hv_model.specs.Rules.{machine}
 use Rattle.hv_model.specs.Legal.{greatest_stamp, terminal_at_start}
-use Rattle.hv_model.specs.Report.{transcript, event_shown, is_terminal}
+use Rattle.hv_model.specs.Report.{IsTranscript, ShowsEvent, is_terminal}
 use Rattle.hv_rounds.specs.declared.files.FileCell.{FileCell}
 use Rattle.hv_rounds.specs.declared.terminal.Terminal.{Terminal as TerminalCell}
 use Rattle.hv_rounds.specs.declared.board.Board.{Board}
 use Rattle.hv_rounds.specs.Cells.{value_of}
-use Rattle.hv_rounds.specs.Step.{IsStep, FilesPart}
+use Rattle.hv_rounds.specs.Step.{IsStep, AppendsEvent, FilesPart}
 use Rattle.hv_rounds.specs.Board.{at, IsBoardStep, Holds, own_events, folded, ShownAt, IsHeld, IsByTerminal, Goes}
 use Rattle.hv_rounds.proofs.Boards.{may-happen, holds-next, part-of, leaves, takes}
 
@@ -45,14 +45,12 @@ folded-push : (t : TerminalState) (es : List Event) (e : Event) → folded t (es
 folded-push t [] e = refl
 folded-push t (f ∷ es) e = folded-push (terminal_after t f) es e
 
-transcript-push : (t : TerminalState) (es : List Event) (e : Event) → transcript t (es ++ e ∷ []) ≡ transcript t es ++ event_shown (folded t es) e
-transcript-push t [] e = append-none (event_shown t e)
-  where
-    append-none : (xs : List ℕ) → xs ++ [] ≡ [] ++ xs
-    append-none [] = refl
-    append-none (x ∷ xs) = ap (λ zs. x ∷ zs) (append-none xs)
-transcript-push t (f ∷ es) e =
-    ap (λ zs. event_shown t f ++ zs) (transcript-push (terminal_after t f) es e) ∙ sym (append_assoc (event_shown t f) (transcript (terminal_after t f) es) (event_shown (folded (terminal_after t f) es) e))
+transcript-push : (t : TerminalState) (es : List Event) (e : Event) (text more : List ℕ) → IsTranscript t es text → ShowsEvent (folded t es) e more → IsTranscript t (es ++ e ∷ []) (text ++ more)
+transcript-push t [] e text more is shows = (more, [], ap (λ zs. zs ++ more) is ∙ sym (append-nothing more), shows, refl)
+transcript-push t (f ∷ es) e text more is shows =
+    let here = is.0 in
+    let later = is.1 in
+    (here, later ++ more, ap (λ zs. zs ++ more) is.2 ∙ append_assoc here later more, is.3, transcript-push (terminal_after t f) es e later more is.4 shows)
 
 own-push : (t : ℕ) (es : List Entry) (e : Entry) → own_events t (es ++ e ∷ []) ≡ own_events t es ++ filter (λ x. is_terminal t x.actor) (e.event ∷ [])
 own-push t es e = ap (filter (λ (x : Event). is_terminal t x.actor)) (map-push (λ (x : Entry). x.event) es e) ∙ filter-append (λ (x : Event). is_terminal t x.actor) (map (λ (x : Entry). x.event) es) (e.event ∷ [])
@@ -63,17 +61,13 @@ kept-one p e h = rw h refl
 kept-none : (p : Event → Bool) (e : Event) → p e ≡ false → filter p (e ∷ []) ≡ []
 kept-none p e h = rw h refl
 
-append-nothing : {A : Type 0} (xs : List A) → xs ++ [] ≡ xs
-append-nothing [] = refl
-append-nothing (x ∷ xs) = ap (λ zs. x ∷ zs) (append-nothing xs)
-
 log-push : (es : List Event) (e : Event) → IsLog es → AllByRecursion (λ f. (f.stamp < e.stamp) × (f.actor ≡ e.actor)) es → IsLog (es ++ e ∷ [])
 log-push [] e log all = (tt, tt)
 log-push (f ∷ es) e log all = (all-push (IsFollowedBy f) es e log.0 (all.0.1, all.0.0), log-push es e log.1 all.1)
 
 -- the terminal of an event has shown one event more
 shown-own : (O : Origin) (t : ℕ) (es : List Entry) (e : Entry) (x x' : TerminalCell) → e.event.actor ≡ Terminal t → x.stamp < e.event.stamp → x'.stamp ≡ e.event.stamp → ShownAt O t es x
-    → value_of x' ≡ terminal_after (value_of x) e.event → x'.shown ≡ x.shown ++ event_shown (value_of x) e.event → ShownAt O t (es ++ e ∷ []) x'
+    → value_of x' ≡ terminal_after (value_of x) e.event → AppendsEvent (value_of x) e.event x.shown x'.shown → ShownAt O t (es ++ e ∷ []) x'
 shown-own O t es e x x' is later stamp h after shown =
     let start = terminal_at_start O t in
     let own : own_events t (es ++ e ∷ []) ≡ own_events t es ++ e.event ∷ [] =
@@ -87,10 +81,13 @@ shown-own O t es e x x' is later stamp h after shown =
     all-push Now (own_events t es) e.event (all-map Was Now (λ f w. (let at_most = w.0 in omega arith, w.1)) (own_events t es) h.upto) (omega arith, is) in
     let Log : List Event → Type 0 = IsLog in
     let Upto : List Event → Type 0 = AllByRecursion Now in
+    let Script : List Event → Type 0 = λ own. IsTranscript start own x'.shown in
+    let After : List ℕ → Type 0 = IsTranscript start (own_events t es ++ e.event ∷ []) in
+    let Shows : TerminalState → Type 0 = λ v. ShowsEvent v e.event shown.text in
     record {
       value = after ∙ ap (λ v. terminal_after v e.event) h.value ∙ sym (folded-push start (own_events t es) e.event) ∙ ap (folded start) (sym own);
-      shown = shown ∙ ap (λ zs. zs ++ event_shown (value_of x) e.event) h.shown ∙ ap (λ v. transcript start (own_events t es) ++ event_shown v e.event) h.value
-          ∙ sym (transcript-push start (own_events t es) e.event) ∙ ap (transcript start) (sym own);
+      shown = subst Script (sym own) (subst After (sym shown.appended)
+          (transcript-push start (own_events t es) e.event x.shown shown.text h.shown (subst Shows h.value shown.shows)));
       log = subst Log (sym own) log;
       upto = subst Upto (sym own) upto;
     }
@@ -103,7 +100,8 @@ shown-other O t u es e x is apart h =
     own-push u es e ∙ ap (λ zs. own_events u es ++ zs) (kept-none (λ y. is_terminal u y.actor) e.event (ap (is_terminal u) is ∙ ne_eqb u t apart)) ∙ append-nothing (own_events u es) in
     let Log : List Event → Type 0 = IsLog in
     let Upto : List Event → Type 0 = AllByRecursion (λ f. (f.stamp ≤ x.stamp) × (f.actor ≡ Terminal u)) in
-    record { value = h.value ∙ ap (folded start) (sym own); shown = h.shown ∙ ap (transcript start) (sym own); log = subst Log (sym own) h.log; upto = subst Upto (sym own) h.upto }
+    let Script : List Event → Type 0 = λ own. IsTranscript start own x.shown in
+    record { value = h.value ∙ ap (folded start) (sym own); shown = subst Script (sym own) h.shown; log = subst Log (sym own) h.log; upto = subst Upto (sym own) h.upto }
 
 Any-more : {A : Type 0} (P : A → Type 0) (xs : List A) (y : A) → Any P xs → Any P (xs ++ y ∷ [])
 Any-more {A} P xs y h =

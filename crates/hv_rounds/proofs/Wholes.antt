@@ -14,7 +14,7 @@ use Rattle.hv_model.specs.Files.{load_files}
 use Rattle.hv_model.specs.Terminal.{TerminalState}
 use Rattle.hv_model.specs.Rules.{machine}
 use Rattle.hv_model.specs.Legal.{terminal_at_start, begun}
-use Rattle.hv_model.specs.Report.{is_terminal}
+use Rattle.hv_model.specs.Report.{is_terminal, IsTranscript}
 use Rattle.hv_rounds.specs.declared.terminal.Terminal.{Terminal as TerminalCell}
 use Rattle.hv_rounds.specs.declared.board.Board.{Board}
 use Rattle.hv_rounds.specs.Cells.{value_of, IsNew}
@@ -112,6 +112,7 @@ begun-goes O boot b b' p together =
           let h = p.goes.shown t d lt in
           let e = together.each t d lt in
           let Now : List Event → Type 0 = AllByRecursion (λ f. (f.stamp ≤ (at b' t d).stamp) × (f.actor ≡ Terminal t)) in
+          let Shown : List ℕ → Type 0 = IsTranscript (terminal_at_start O t) (own_events t boot) in
           let Goal : Bool → Type 0 = λ same. eqb t 0 ≡ same → Now (own_events t boot) in
           let upto : Now (own_events t boot) =
           elim (eqb t 0) as Goal [
@@ -123,7 +124,7 @@ begun-goes O boot b b' p together =
                 let different : t ≢ 0 = λ same. (let there = eq-eqb t 0 same in absurd (cc)) in
                 subst Now (sym (others-none t different boot p.alone)) tt
           ] refl in
-          subst (λ (es : List Entry). ShownAt O t es (at b' t d)) (sym whole) (record { value = e.value ∙ h.value; shown = e.shown ∙ h.shown; log = h.log; upto = upto });
+          subst (λ (es : List Entry). ShownAt O t es (at b' t d)) (sym whole) (record { value = e.value ∙ h.value; shown = subst Shown (sym e.shown) h.shown; log = h.log; upto = upto });
       in_range = tt;
       by_terminals = tt;
       files_held = subst (λ (es : List Entry). IsHeld es b'.files.stamp) (sym whole) (subst (λ (f : _). IsHeld boot f.stamp) (sym together.files) p.goes.files_held);

@@ -1,5 +1,5 @@
 -- The cells of a run, and what they mean in the abstract machine.
-use Rattle.std.specs.Prelude.{◌≡◌, ◌≢◌, ◌⊎◌, ℕ, ◌<◌, ◌≤◌, max, true, false, Option, Some, None, List, [], ◌∷◌, ◌++◌, map, filter, Any, slice_index_or}
+use Rattle.std.specs.Prelude.{◌≡◌, ◌≢◌, ◌⊎◌, ℕ, ◌<◌, ◌≤◌, max, true, false, Option, Some, None, List, [], ◌∷◌, ◌++◌, map, Any, slice_index_or}
 use Rattle.std.specs.List.{AllByRecursion}
 use Rattle.hv_machine.specs.Machine.{State, state_after, IsRun}
 use Rattle.hv_event.specs.declared.event.ActorId.TheVariants.{Hart, Terminal}
@@ -13,11 +13,11 @@ use Rattle.hv_model.specs.Terminal.{TerminalState, terminal_after}
 use Rattle.hv_model.specs.Rules.{machine}
 use Rattle.hv_model.specs.Legal.{greatest_stamp, terminal_at_start}
 use Rattle.hv_model.specs.Rounds.{terminal_has_ended}
-use Rattle.hv_model.specs.Report.{transcript, is_terminal, event_shown}
+use Rattle.hv_model.specs.Report.{IsTranscript, events_of}
 use Rattle.hv_rounds.specs.declared.terminal.Terminal.{Terminal as TerminalCell}
 use Rattle.hv_rounds.specs.declared.board.Board.{Board}
 use Rattle.hv_rounds.specs.Cells.{value_of, BeginsAt}
-use Rattle.hv_rounds.specs.Step.{IsStep}
+use Rattle.hv_rounds.specs.Step.{IsStep, AppendsEvent}
 
 -- the terminal of a number, or d
 abbrev pub at : Board → ℕ → TerminalCell → TerminalCell
@@ -26,7 +26,7 @@ at b t d = slice_index_or b.terminals.items t d
 -- one step of the terminal t: the others stay, and it shows what the event shows
 pub record IsBoardStep (b b' : Board) (t : ℕ) (e : Entry) : Type 0 where
   pub step : (d : TerminalCell) → IsStep b.files b'.files (at b t d) (at b' t d) e
-  pub shown : (d : TerminalCell) → (at b' t d).shown ≡ (at b t d).shown ++ event_shown (value_of (at b t d)) e.event
+  pub shown : (d : TerminalCell) → AppendsEvent (value_of (at b t d)) e.event (at b t d).shown (at b' t d).shown
   pub others : (u : ℕ) (d : TerminalCell) → u ≢ t → at b' u d ≡ at b u d
 
 -- the board holds a state of the abstract machine
@@ -40,7 +40,7 @@ pub record Holds (O : Origin) (s : State (machine O)) (b : Board) : Type 0 where
 
 -- the events of a terminal
 abbrev pub own_events : ℕ → List Entry → List Event
-own_events t es = filter (λ e. is_terminal t e.actor) (map (λ e. e.event) es)
+own_events t es = events_of t (map (λ e. e.event) es)
 
 -- a terminal after events
 abbrev pub folded : TerminalState → List Event → TerminalState
@@ -50,7 +50,7 @@ folded t (e ∷ es) = folded (terminal_after t e) es
 -- a terminal has come as far as its events lead and has shown what they show; they are a log up to its stamp
 pub record ShownAt (O : Origin) (t : ℕ) (es : List Entry) (x : TerminalCell) : Type 0 where
   pub value : value_of x ≡ folded (terminal_at_start O t) (own_events t es)
-  pub shown : x.shown ≡ transcript (terminal_at_start O t) (own_events t es)
+  pub shown : IsTranscript (terminal_at_start O t) (own_events t es) x.shown
   pub log : IsLog (own_events t es)
   pub upto : AllByRecursion (λ e. (e.stamp ≤ x.stamp) × (e.actor ≡ Terminal t)) (own_events t es)
 

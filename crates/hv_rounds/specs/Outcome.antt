@@ -1,15 +1,10 @@
 -- What a run in rounds leaves.
-use Rattle.std.specs.Prelude.{◌≡◌, ℕ, ◌<◌, ◌≤◌, Option, Some, None, List, map, filter, Any}
-use Rattle.hv_event.specs.declared.event.Event.{Event}
+use Rattle.std.specs.Prelude.{◌≡◌, ℕ, ◌<◌, ◌≤◌, Option, Some, None, Any}
 use Rattle.hv_model.specs.Origin.{Origin, terminals}
-use Rattle.hv_model.specs.Legal.{IsFinishedRun, IsStoppedRun, greatest_stamp, terminal_at_start, lines_at_start}
+use Rattle.hv_model.specs.Legal.{IsFinishedRun, IsStoppedRun, greatest_stamp, lines_at_start}
 use Rattle.hv_model.specs.Rounds.{IsRounds}
-use Rattle.hv_model.specs.Report.{transcript, is_terminal}
+use Rattle.hv_model.specs.Report.{AreTranscripts}
 use Rattle.hv_rounds.specs.declared.whole.Outcome.{Outcome}
-
--- the transcripts of the four terminals, by number
-abbrev pub transcripts_of : Origin → List Event → List (List ℕ)
-transcripts_of O H = map (λ t. transcript (terminal_at_start O t) (filter (λ e. is_terminal t e.actor) H)) terminals
 
 -- no terminal begins with more lines than its scripts may have
 abbrev pub LinesFit : Origin → Type 0
@@ -19,7 +14,7 @@ LinesFit O = (t : ℕ) → t < 4 → lines_at_start O t ≤ 10000
 pub record IsFinished (O : Origin) (o : Outcome) : Type 0 where
   pub run : IsFinishedRun O o.history.items o.files
   pub rounds : IsRounds O o.history.items
-  pub shown : o.transcripts ≡ transcripts_of O o.history.items
+  pub shown : AreTranscripts O o.history.items terminals o.transcripts
 
 -- a run that a step stopped whose greatest stamp was the last one: its history is legal and has an event of that stamp
 pub record IsSpent (O : Origin) (o : Outcome) (stamp : ℕ) : Type 0 where

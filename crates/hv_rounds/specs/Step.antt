@@ -1,5 +1,5 @@
 -- One step of a terminal over the files.
-use Rattle.std.specs.Prelude.{◌≡◌, ℕ, ◌+◌, ◌^◌, max, Option, Some, Result, Err, List}
+use Rattle.std.specs.Prelude.{◌≡◌, ℕ, ◌+◌, ◌^◌, ◌++◌, max, Option, Some, Result, Err, List}
 use Rattle.hv_event.specs.declared.event.ActorId.TheVariants as actor
 use Rattle.hv_event.specs.declared.step.Step.{Step}
 use Rattle.hv_event.specs.declared.step.Step.TheVariants as step
@@ -10,7 +10,9 @@ use Rattle.hv_event.specs.declared.reply.Refusal.{Refusal}
 use Rattle.hv_event.specs.declared.reply.Refusal.TheVariants as refusal
 use Rattle.hv_words.specs.declared.command.Command.{Command}
 use Rattle.hv_words.specs.Commands.{Gives, IsNoCommand, HasBadWord}
-use Rattle.hv_model.specs.Terminal.{TerminalAgrees, terminal_after, begun, step_of}
+use Rattle.hv_model.specs.Terminal.{TerminalState, TerminalAgrees, terminal_after, begun, step_of}
+use Rattle.hv_model.specs.Report.{ShowsEvent, ShowsReply, ShowsEnd}
+use Rattle.hv_event.specs.declared.event.Event.{Event}
 use Rattle.hv_rounds.specs.declared.stop.Stop.{Stop}
 use Rattle.hv_rounds.specs.declared.stop.Stop.TheVariants as stop
 use Rattle.hv_rounds.specs.declared.files.FileCell.{FileCell}
@@ -77,6 +79,24 @@ pub record IsAsked (line : List ℕ) (s : Step) : Type 0 where
   pub asked : Command
   pub gives : Gives line asked
   pub step_is : s ≡ step_of asked
+
+-- behind what a terminal has shown stands what a reply shows
+pub record AppendsReply (r : Reply) (old new : List ℕ) : Type 0 where
+  pub text : List ℕ
+  pub shows : ShowsReply r text
+  pub appended : new ≡ old ++ text
+
+-- and what the end of a line shows, which has so many steps left
+pub record AppendsEnd (rests : ℕ) (r : Reply) (old new : List ℕ) : Type 0 where
+  pub text : List ℕ
+  pub shows : ShowsEnd rests r text
+  pub appended : new ≡ old ++ text
+
+-- and what an event shows
+pub record AppendsEvent (t : TerminalState) (e : Event) (old new : List ℕ) : Type 0 where
+  pub text : List ℕ
+  pub shows : ShowsEvent t e text
+  pub appended : new ≡ old ++ text
 
 -- a step that is stopped by its stamp leaves the files
 abbrev pub KeepsFiles : {A : Type 0} → Result A Stop → FileCell → FileCell → Type 0

@@ -2,7 +2,8 @@
 ghost use Rattle.std.specs.Prelude.{◌≡◌, ◌++◌, ◌∷◌, [], OnOk, codes};
 ghost use Rattle.std.specs.List.{flat_map};
 ghost use Rattle.hv_event.specs.Line.{refusal_text};
-ghost use Rattle.hv_model.specs.Report.{line, shown, names_shown, answer_shown, nothing_shown, reply_shown, refused_shown};
+ghost use Rattle.hv_model.specs.Report.{line, shown, names_shown, answer_shown, nothing_shown, refused_shown};
+ghost use Rattle.hv_rounds.specs.Step.{AppendsReply};
 
 use hv_event::{Refusal, Reply, print_refusal};
 use hv_text::{Bytes, Strings};
@@ -120,7 +121,7 @@ fn push_changed(
 
 /// What the reply to a command shows.
 pub fn push_reply(alloc: Global, to: &mut Bytes, reply: &Reply) -> Result<(), AllocError>
-    ensures { OnOk result (to.new ≡ to.old ++ reply_shown reply.now) }
+    ensures { OnOk result (AppendsReply reply.now to.old to.new) }
 {
     match reply {
         Reply::Bad(why) => push_refused(alloc, to, *why),

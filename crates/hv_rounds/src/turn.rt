@@ -2,9 +2,9 @@
 ghost use Rattle.std.specs.Prelude.{◌≡◌, ◌++◌, IfOk, OnOk, false};
 ghost use Rattle.hv_model.specs.Terminal.{begun};
 ghost use Rattle.hv_model.specs.Rounds.{terminal_has_ended};
-ghost use Rattle.hv_model.specs.Report.{begin_shown, end_shown, event_shown};
+ghost use Rattle.hv_model.specs.Report.{begin_shown};
 ghost use Rattle.hv_rounds.specs.Cells.{value_of};
-ghost use Rattle.hv_rounds.specs.Step.{IsStep, SpentBy, KeepsFiles};
+ghost use Rattle.hv_rounds.specs.Step.{IsStep, AppendsEvent, SpentBy, KeepsFiles};
 
 use crate::files::FileCell;
 use crate::show::{push_begun, push_reply};
@@ -17,6 +17,7 @@ use std::alloc::{AllocError, Global};
 
 impl Terminal {
     ghost use Rattle.hv_rounds.specs.Cells.{SameButShown};
+    ghost use Rattle.hv_rounds.specs.Step.{AppendsEnd};
     ghost use Rattle.hv_model.specs.Report.{line};
     ghost use Rattle.std.specs.Prelude.{codes};
 
@@ -31,7 +32,8 @@ impl Terminal {
     /// Shows what came of a line, where that is done.
     pub fn show_end(&mut self, alloc: Global, reply: &Reply) -> Result<(), AllocError>
         ensures same { SameButShown self.old self.new }
-        ensures shown { OnOk result (self.new.shown ≡ self.old.shown ++ end_shown self.old.rests reply.now) }
+        ensures shown { OnOk result (
+            AppendsEnd self.old.rests reply.now self.old.shown self.new.shown) }
     {
         if self.rests > 0 {
             return Ok(());
@@ -78,8 +80,8 @@ pub fn take_step(
 ) -> Result<Entry, Stop>
     requires { terminal_has_ended (value_of terminal.old) ≡ false }
     ensures ok { IfOk result (λ e. IsStep files.old files.new terminal.old terminal.new e) }
-    ensures shown { IfOk result (λ e. terminal.new.shown
-        ≡ terminal.old.shown ++ event_shown (value_of terminal.old) e.event) }
+    ensures shown { IfOk result (λ e.
+        AppendsEvent (value_of terminal.old) e.event terminal.old.shown terminal.new.shown) }
     ensures spent { SpentBy result terminal.old.stamp files.old.stamp }
     ensures kept { KeepsFiles result files.old files.new }
 {

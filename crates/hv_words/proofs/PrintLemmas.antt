@@ -257,9 +257,11 @@ graphic_word word some h = (ltb-true 0 (length word) some, graphic_visible_all w
 row_visible : (c : Command) → IsVisibleWord (row_of c).family × IsVisibleWord (row_of c).name
 row_visible (command.VfsLs path) = (graphic_word (codes "vfs") refl refl, graphic_word (codes "ls") refl refl)
 row_visible (command.VfsCat path) = (graphic_word (codes "vfs") refl refl, graphic_word (codes "cat") refl refl)
+row_visible (command.VfsDts path) = (graphic_word (codes "vfs") refl refl, graphic_word (codes "dts") refl refl)
 row_visible (command.VfsMkdir path) = (graphic_word (codes "vfs") refl refl, graphic_word (codes "mkdir") refl refl)
 row_visible (command.VfsRm path) = (graphic_word (codes "vfs") refl refl, graphic_word (codes "rm") refl refl)
 row_visible (command.VfsWrite path text) = (graphic_word (codes "vfs") refl refl, graphic_word (codes "write") refl refl)
+row_visible (command.VfsAsm source target) = (graphic_word (codes "vfs") refl refl, graphic_word (codes "asm") refl refl)
 row_visible (command.VfsRun path) = (graphic_word (codes "vfs") refl refl, graphic_word (codes "run") refl refl)
 row_visible (command.TermRest count) = (graphic_word (codes "term") refl refl, graphic_word (codes "rest") refl refl)
 

@@ -20,18 +20,22 @@ use Rattle.hv_words.proofs.TextLemmas.{same_byte, byte_is_some}
 abbrev name_of : Command → RowName
 name_of (command.VfsLs path) = row.VfsLs
 name_of (command.VfsCat path) = row.VfsCat
+name_of (command.VfsDts path) = row.VfsDts
 name_of (command.VfsMkdir path) = row.VfsMkdir
 name_of (command.VfsRm path) = row.VfsRm
 name_of (command.VfsWrite path text) = row.VfsWrite
+name_of (command.VfsAsm source target) = row.VfsAsm
 name_of (command.VfsRun path) = row.VfsRun
 name_of (command.TermRest count) = row.TermRest
 
 row_by_name : (c : Command) → row_of c ≡ row_named (name_of c)
 row_by_name (command.VfsLs path) = refl
 row_by_name (command.VfsCat path) = refl
+row_by_name (command.VfsDts path) = refl
 row_by_name (command.VfsMkdir path) = refl
 row_by_name (command.VfsRm path) = refl
 row_by_name (command.VfsWrite path text) = refl
+row_by_name (command.VfsAsm source target) = refl
 row_by_name (command.VfsRun path) = refl
 row_by_name (command.TermRest count) = refl
 
@@ -39,9 +43,11 @@ row_by_name (command.TermRest count) = refl
 some_command : (name : RowName) → (c : Command) × (row_of c ≡ row_named name)
 some_command row.VfsLs = (command.VfsLs [], refl)
 some_command row.VfsCat = (command.VfsCat [], refl)
+some_command row.VfsDts = (command.VfsDts [], refl)
 some_command row.VfsMkdir = (command.VfsMkdir [], refl)
 some_command row.VfsRm = (command.VfsRm [], refl)
 some_command row.VfsWrite = (command.VfsWrite [] [], refl)
+some_command row.VfsAsm = (command.VfsAsm [] [], refl)
 some_command row.VfsRun = (command.VfsRun [], refl)
 some_command row.TermRest = (command.TermRest 0, refl)
 
@@ -49,9 +55,11 @@ some_command row.TermRest = (command.TermRest 0, refl)
 row_found : (c : Command) → row_with (row_of c).family (row_of c).name ≡ Some (name_of c)
 row_found (command.VfsLs path) = refl
 row_found (command.VfsCat path) = refl
+row_found (command.VfsDts path) = refl
 row_found (command.VfsMkdir path) = refl
 row_found (command.VfsRm path) = refl
 row_found (command.VfsWrite path text) = refl
+row_found (command.VfsAsm source target) = refl
 row_found (command.VfsRun path) = refl
 row_found (command.TermRest count) = refl
 
@@ -68,9 +76,11 @@ same_row c d families names = row_by_name c ∙ ap row_named (same_name c d fami
 command_with : RowName → List Argument → Option Command
 command_with row.VfsLs (PathGiven path ∷ []) = Some (command.VfsLs path)
 command_with row.VfsCat (PathGiven path ∷ []) = Some (command.VfsCat path)
+command_with row.VfsDts (PathGiven path ∷ []) = Some (command.VfsDts path)
 command_with row.VfsMkdir (PathGiven path ∷ []) = Some (command.VfsMkdir path)
 command_with row.VfsRm (PathGiven path ∷ []) = Some (command.VfsRm path)
 command_with row.VfsWrite (PathGiven path ∷ TextGiven text ∷ []) = Some (command.VfsWrite path text)
+command_with row.VfsAsm (PathGiven source ∷ PathGiven target ∷ []) = Some (command.VfsAsm source target)
 command_with row.VfsRun (PathGiven path ∷ []) = Some (command.VfsRun path)
 command_with row.TermRest (NumberGiven count ∷ []) = Some (command.TermRest count)
 command_with _ _ = None
@@ -79,9 +89,11 @@ command_found : (c : Command) → command_with (name_of c) (arguments_of c) ≡ 
 unfolding command_with
 command_found (command.VfsLs path) = refl
 command_found (command.VfsCat path) = refl
+command_found (command.VfsDts path) = refl
 command_found (command.VfsMkdir path) = refl
 command_found (command.VfsRm path) = refl
 command_found (command.VfsWrite path text) = refl
+command_found (command.VfsAsm source target) = refl
 command_found (command.VfsRun path) = refl
 command_found (command.TermRest count) = refl
 

@@ -1,5 +1,5 @@
 //! Lines read as commands.
-ghost use Rattle.std.specs.Prelude.{◌≡◌, ◌↔◌, ℕ, List, [], ◌∷◌, IsTrue, Result, Ok, Err, MatchResult};
+ghost use Rattle.std.specs.Prelude.{◌≡◌, ◌↔◌, ◌≤◌, ℕ, List, [], ◌∷◌, IsTrue, Result, Ok, Err, MatchResult};
 ghost use Rattle.hv_words.specs.declared.command.Command.{Command};
 ghost use Rattle.hv_words.specs.declared.refusal.WordsRefusal.{WordsRefusal};
 ghost use Rattle.hv_words.specs.Words.{words};
@@ -51,17 +51,18 @@ fn only_path(alloc: Global, text: &[u8]) -> Result<Path, WordsRefusal>
     Ok(path)
 }
 
-/// A path of a name at least, and no further word.
-fn only_named_path(alloc: Global, text: &[u8]) -> Result<Path, WordsRefusal>
+/// A path of a name at least as the word of a number, and no further word.
+fn only_named_path(alloc: Global, text: &[u8], at: usize) -> Result<Path, WordsRefusal>
+    requires { at ≤ 4 }
     ensures { MatchResult result
         (λ path. FitAll (NamedPath ∷ []) (words text.now) (PathGiven path ∷ []))
-        (λ refusal. AreRefusedFrom (NamedPath ∷ []) (words text.now) 3 refusal) }
+        (λ refusal. AreRefusedFrom (NamedPath ∷ []) (words text.now) at refusal) }
 {
     let Some((word, rest)) = next_word(text) else {
-        return Err(WordsRefusal::BadWords(FIRST_ARGUMENT));
+        return Err(WordsRefusal::BadWords(at));
     };
-    let path = read_named_path(alloc, word, FIRST_ARGUMENT)?;
-    read_end(rest, FIRST_ARGUMENT + 1)?;
+    let path = read_named_path(alloc, word, at)?;
+    read_end(rest, at + 1)?;
     Ok(path)
 }
 
@@ -107,6 +108,20 @@ fn read_write(alloc: Global, text: &[u8]) -> Result<Command, WordsRefusal>
     Ok(Command::VfsWrite(path, bytes))
 }
 
+/// The path of the text and that of its image.
+fn read_asm(alloc: Global, text: &[u8]) -> Result<Command, WordsRefusal>
+    ensures { MatchResult result
+        (λ command. HasArguments (row_named RowName.VfsAsm) (words text.now) command)
+        (λ refusal. AreRefusedFrom (AnyPath ∷ NamedPath ∷ []) (words text.now) 3 refusal) }
+{
+    let Some((word, rest)) = next_word(text) else {
+        return Err(WordsRefusal::BadWords(FIRST_ARGUMENT));
+    };
+    let source = read_path(alloc, word, FIRST_ARGUMENT)?;
+    let target = only_named_path(alloc, rest, FIRST_ARGUMENT + 1)?;
+    Ok(Command::VfsAsm(source, target))
+}
+
 /// The command of a row whose arguments are the words of a text.
 fn read_arguments(alloc: Global, row: RowName, text: &[u8]) -> Result<Command, WordsRefusal>
     ensures { MatchResult result
@@ -116,9 +131,11 @@ fn read_arguments(alloc: Global, row: RowName, text: &[u8]) -> Result<Command, W
     match row {
         RowName::VfsLs => Ok(Command::VfsLs(only_path(alloc, text)?)),
         RowName::VfsCat => Ok(Command::VfsCat(only_path(alloc, text)?)),
-        RowName::VfsMkdir => Ok(Command::VfsMkdir(only_named_path(alloc, text)?)),
-        RowName::VfsRm => Ok(Command::VfsRm(only_named_path(alloc, text)?)),
+        RowName::VfsDts => Ok(Command::VfsDts(only_path(alloc, text)?)),
+        RowName::VfsMkdir => Ok(Command::VfsMkdir(only_named_path(alloc, text, FIRST_ARGUMENT)?)),
+        RowName::VfsRm => Ok(Command::VfsRm(only_named_path(alloc, text, FIRST_ARGUMENT)?)),
         RowName::VfsWrite => read_write(alloc, text),
+        RowName::VfsAsm => read_asm(alloc, text),
         RowName::VfsRun => Ok(Command::VfsRun(only_path(alloc, text)?)),
         RowName::TermRest => Ok(Command::TermRest(only_count(text)?)),
     }

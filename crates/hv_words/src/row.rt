@@ -7,9 +7,11 @@ ghost use Rattle.hv_words.specs.Rows.{file_row, rest_row, row_with, HasWords};
 pub enum RowName {
     VfsLs,
     VfsCat,
+    VfsDts,
     VfsMkdir,
     VfsRm,
     VfsWrite,
+    VfsAsm,
     VfsRun,
     TermRest,
 }
@@ -24,6 +26,9 @@ fn file_row(name: &[u8]) -> Option<RowName>
     if name == b"cat".as_slice() {
         return Some(RowName::VfsCat);
     }
+    if name == b"dts".as_slice() {
+        return Some(RowName::VfsDts);
+    }
     if name == b"mkdir".as_slice() {
         return Some(RowName::VfsMkdir);
     }
@@ -32,6 +37,9 @@ fn file_row(name: &[u8]) -> Option<RowName>
     }
     if name == b"write".as_slice() {
         return Some(RowName::VfsWrite);
+    }
+    if name == b"asm".as_slice() {
+        return Some(RowName::VfsAsm);
     }
     if name == b"run".as_slice() {
         return Some(RowName::VfsRun);

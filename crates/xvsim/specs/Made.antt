@@ -5,7 +5,7 @@ use Rattle.hv_model.specs.declared.opening.Opening.{Opening}
 use Rattle.hv_model.specs.Files.{load_files}
 use Rattle.xvsim.specs.Opening.{opening_of}
 use Rattle.xvsim.specs.Limits.{AreRunnable}
-use Rattle.xvsim.specs.Run.{IsFinished, IsStoppedAt, report_of}
+use Rattle.xvsim.specs.Run.{IsFinished, IsStoppedAt, IsReportOf}
 use Rattle.xvsim.specs.declared.opening.Start.{Start}
 use Rattle.xvsim.specs.declared.run.Made.{Made}
 use Rattle.xvsim.specs.declared.run.Made.TheVariants as made
@@ -18,5 +18,5 @@ pub record IsStartOf (files : List File) (s : Start) : Type 0 where
 
 -- a run from this opening: finished, with its report, or stopped
 abbrev pub IsMadeFrom : Opening → Made → Type 0
-IsMadeFrom o (made.Finished run report) = (run.opening ≡ o) × IsFinished run × (report ≡ report_of run)
+IsMadeFrom o (made.Finished run report) = (run.opening ≡ o) × IsFinished run × IsReportOf run report
 IsMadeFrom o (made.Stopped run stamp) = (run.opening ≡ o) × IsStoppedAt stamp run

@@ -6,7 +6,7 @@ use Rattle.hv_event.specs.declared.event.Event.{Event}
 use Rattle.hv_model.specs.Origin.{origin_of}
 use Rattle.hv_model.specs.Legal.{IsFinishedRun, IsStoppedRun, greatest_stamp}
 use Rattle.hv_model.specs.Rounds.{IsRounds}
-use Rattle.hv_model.specs.Report.{report}
+use Rattle.hv_model.specs.Report.{IsReport}
 use Rattle.xvsim.specs.Opening.{IsOpening}
 use Rattle.xvsim.specs.declared.kept.Kept.{Kept}
 use Rattle.xvsim.specs.declared.kept.KeptRun.{KeptRun}
@@ -30,9 +30,21 @@ pub record IsStoppedAt (stamp : ℕ) (run : KeptRun) : Type 0 where
   pub greatest : stamp ≡ greatest_stamp
   pub held : Any (λ e. e.stamp ≡ stamp) run.history.items
 
--- the report of a run that was made in turn, with its history
-unfoldable pub report_of : KeptRun → List ℕ
-report_of run = report (origin_of run.opening) run.history.items false false
+-- a text is the report of a run that was made in turn, with its history
+abbrev pub IsReportOf : KeptRun → List ℕ → Type 0
+IsReportOf run text = IsReport (origin_of run.opening) run.history.items false false text
+
+-- the sink took exactly a report of the run
+pub record AppendsReport (old new : Option (List ℕ)) (run : KeptRun) : Type 0 where
+  pub report : List ℕ
+  pub is_report : IsReportOf run report
+  pub appended : Appends old new report
+
+-- the sink took a front of a report of the run
+pub record AppendsReportFront (old new : Option (List ℕ)) (run : KeptRun) : Type 0 where
+  pub report : List ℕ
+  pub is_report : IsReportOf run report
+  pub appended : AppendsFront old new report
 
 -- whether an answer comes after a run
 abbrev pub has_run : Status → Bool

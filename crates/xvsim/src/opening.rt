@@ -12,8 +12,8 @@ use crate::refusal::FilesRefusal;
 use hv_bundle::File;
 use hv_files::FileTree;
 use hv_load::load_tree;
-use hv_model::{Files, Opening, Scripts};
-use hv_text::{Bytes, Path, PathRefusal};
+use hv_model::{Files, Opening};
+use hv_text::{Bytes, Path, PathRefusal, Strings};
 use std::alloc::{AllocError, Global};
 
 /// An opening, and the tree of its files.
@@ -108,7 +108,7 @@ pub fn start_of(alloc: Global, files: Vec<File>) -> Result<Start, FilesRefusal>
             harts: 2,
             turns: 0,
             files: Files::from_vec(files),
-            scripts: Scripts::from_vec(scripts),
+            scripts: Strings::from_vec(scripts),
         },
         files: tree,
     })

@@ -2,12 +2,10 @@
 ghost use Rattle.std.specs.Prelude.{◌≡◌, ◌++◌, [], length, OnOk, IfOk, codes, false, unwrap_or, slice_get, List};
 ghost use Rattle.std.specs.List.{flat_map};
 ghost use Rattle.std.specs.Fmt.{decimal};
-ghost use Rattle.xvsim.specs.declared.kept.KeptRun.{KeptRun};
 ghost use Rattle.hv_event.specs.Line.{event_text};
 ghost use Rattle.hv_model.specs.Origin.{origin_of, terminals};
-ghost use Rattle.hv_model.specs.Report.{line, titled, terminal_text, heading, states_text, history_text};
-ghost use Rattle.hv_rounds.specs.Outcome.{transcripts_of};
-ghost use Rattle.xvsim.specs.Run.{report_of};
+ghost use Rattle.hv_model.specs.Report.{line, titled, terminals_text, heading, states_text, history_text, AreTranscripts};
+ghost use Rattle.xvsim.specs.Run.{IsReportOf};
 
 use crate::kept::KeptRun;
 use hv_event::{Event, print_event};
@@ -50,8 +48,8 @@ fn push_terminal(
 }
 
 fn push_terminals(alloc: Global, to: &mut Bytes, transcripts: &Strings) -> Result<(), AllocError>
-    ensures { (run : KeptRun) → transcripts.now ≡ transcripts_of (origin_of run.opening) run.history.items
-        → OnOk result (to.new ≡ to.old ++ flat_map (terminal_text (origin_of run.opening) run.history.items) terminals) }
+    ensures { length transcripts.now ≡ 4
+        → OnOk result (to.new ≡ to.old ++ terminals_text terminals transcripts.now) }
 {
     push_terminal(alloc, to, transcripts, 0)?;
     push_terminal(alloc, to, transcripts, 1)?;
@@ -76,8 +74,9 @@ pub fn report_of_run(
     run: &KeptRun,
     transcripts: &Strings,
 ) -> Result<Bytes, AllocError>
-    requires { transcripts.now ≡ transcripts_of (origin_of run.now.opening) run.now.history.items }
-    ensures { IfOk result (λ text. text ≡ report_of run.now) }
+    requires { AreTranscripts (origin_of run.now.opening) run.now.history.items
+        terminals transcripts.now }
+    ensures { IfOk result (IsReportOf run.now) }
 {
     let mut to = Bytes::from_vec(Vec::new(alloc));
     push_heading(alloc, &mut to, &run.opening)?;

@@ -1,10 +1,8 @@
 //! The top call.
 ghost use Rattle.std.specs.Prelude.{◌≡◌, ◌≢◌, ◌∷◌, ◌++◌, [], List, ℕ, map, string_bytes, IfOk, IfSome, IsSomeAnd, IsTrue};
-ghost use Rattle.std.specs.Io.KnownBytes.{Appends};
 ghost use Rattle.hv_base.specs.Count.{Rose};
-ghost use Rattle.hv_base.specs.Writing.{AppendsFront};
 ghost use Rattle.xvsim.specs.Words.{AreRunWords};
-ghost use Rattle.xvsim.specs.Run.{IsRunOf, KeepsRun, has_run, report_of};
+ghost use Rattle.xvsim.specs.Run.{IsRunOf, KeepsRun, AppendsReport, AppendsReportFront, has_run};
 ghost use Rattle.xvsim.specs.Due.{IsDue};
 
 use crate::kept::Kept;
@@ -36,10 +34,10 @@ pub fn xvsim<S: Source, K: Sink>(
     ensures keeps { KeepsRun result kept.old kept.new }
 
     // Of a run that is done exactly the report was written, and after a fault of the sink a front of it.
-    ensures report { result ≡ Status.Done → IsSomeAnd kept.new.run (λ run.
-        Appends (K.held sink.old) (K.held sink.new) (report_of run)) }
-    ensures cut_short { result ≡ Status.WriteFault → IsSomeAnd kept.new.run (λ run.
-        AppendsFront (K.held sink.old) (K.held sink.new) (report_of run)) }
+    ensures report { result ≡ Status.Done → IsSomeAnd kept.new.run
+        (AppendsReport (K.held sink.old) (K.held sink.new)) }
+    ensures cut_short { result ≡ Status.WriteFault → IsSomeAnd kept.new.run
+        (AppendsReportFront (K.held sink.old) (K.held sink.new)) }
     ensures sink_stays { result ≢ Status.Done → result ≢ Status.WriteFault → sink.new ≡ sink.old }
 
     // When each answer comes, where the source tells its bytes.

@@ -79,7 +79,11 @@ returns-clause-complete c = (reached example.origin (entry ∷ []) [], leads, co
 
 pub returns-clause-report : goal.returns-clause-report
 unfolding digits event_text shown
-returns-clause-report c = refl
+returns-clause-report c = record {
+  transcripts = example.transcript ∷ [] ∷ [] ∷ [] ∷ [];
+  shown = ((example.transcript, [], refl, record { behind = codes "hi" ++ 10 ∷ codes "< ok" ++ 10 ∷ []; ends = refl; text_is = refl }, refl), (refl, (refl, (refl, tt))));
+  text_is = refl;
+}
 
 -- no history is legal whose first event may not happen at the start nor where all begin
 module _ (wrong : Event) (never : (s : State (machine example.origin)) (e : Entry)

@@ -1,20 +1,29 @@
-use Rattle.std.proofs.Common.{◌≡◌, vec_len, [], ◌∷◌, ◌++◌, length, sym, ap, ◌∙◌}
+use Rattle.std.proofs.Common.{◌≡◌, ◌<◌, ℕ, vec_len, List, [], ◌∷◌, ◌++◌, length, sym, ap, ◌∙◌, absurd, arith, refl}
 use Rattle.std.specs.Fmt.{decimal}
 use Rattle.std.specs.List.{flat_map}
+use Rattle.hv_event.specs.declared.event.Event.{Event}
 use Rattle.hv_event.specs.Line.{event_text}
-use Rattle.hv_model.specs.Origin.{origin_of, terminals}
-use Rattle.hv_model.specs.Report.{line, heading, terminal_text}
-use Rattle.std.specs.Prelude.{false}
-use Rattle.xvsim.specs.Run.{report_of}
+use Rattle.hv_model.specs.Origin.{Origin, origin_of, terminals}
+use Rattle.hv_model.specs.Report.{line, heading, terminals_text, AreTranscripts}
 use Rattle.xvsim.proofs.Texts.{report_parts}
 use Rattle.xvsim.proofs.report.report_of_run.Goals as goal
 
+as-many : (O : Origin) (H : List Event) (ts : List ℕ) (texts : List (List ℕ)) → AreTranscripts O H ts texts → length texts ≡ length ts
+as-many O H [] [] h = refl
+as-many O H (t ∷ ts) (x ∷ xs) h = let rest = as-many O H ts xs h.1 in omega arith
+as-many O H [] (x ∷ xs) h = absurd h
+as-many O H (t ∷ ts) [] h = absurd h
+
 pub returns : goal.returns
-unfolding report_of
 returns c =
     let O = origin_of c.args.run.now.opening in
     let H = c.args.run.now.history.items in
-    let parts = report_parts (heading O false) (flat_map (terminal_text O H) terminals) (flat_map (λ e. line (event_text e)) H) (decimal (length H)) in
-    let shown = c.in_ok-push_terminals.ensures c.args.run.now c.requires in
+    let texts = c.args.transcripts.now in
+    let parts = report_parts (heading O Bool.false) (terminals_text terminals texts) (flat_map (λ e. line (event_text e)) H) (decimal (length H)) in
+    let shown = c.in_ok-push_terminals.ensures (as-many O H terminals texts c.requires) in
     let size : vec_len c.args.run.now.history ≡ length H = cc (c.deref.ensures.len, c.deref.ensures.value) in
-    rw (c.in_ok-append-3.ensures.ok, c.in_ok-push_decimal.ensures.ok, c.len.ensures, size, c.in_ok-append-2.ensures.ok, c.in_ok-push_events.ensures, c.deref.ensures.value, c.in_ok-append.ensures.ok, shown, c.in_ok-push_heading.ensures, c.from_vec-to.ensures, c.new.ensures.items) parts
+    record {
+      transcripts = texts;
+      shown = c.requires;
+      text_is = rw (c.in_ok-append-3.ensures.ok, c.in_ok-push_decimal.ensures.ok, c.len.ensures, size, c.in_ok-append-2.ensures.ok, c.in_ok-push_events.ensures, c.deref.ensures.value, c.in_ok-append.ensures.ok, shown, c.in_ok-push_heading.ensures, c.from_vec-to.ensures, c.new.ensures.items) parts;
+    }
