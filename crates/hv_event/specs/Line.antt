@@ -48,6 +48,8 @@ refusal_text refusal.Exists = codes "Exists"
 refusal_text refusal.NotEmpty = codes "NotEmpty"
 refusal_text refusal.TooDeep = codes "TooDeep"
 refusal_text refusal.TooLong = codes "TooLong"
+refusal_text (refusal.BadTree n) = codes "BadTree " ++ decimal n
+refusal_text (refusal.BadAsm n) = codes "BadAsm " ++ decimal n
 
 -- A refused step is answered by `refused` and why.
 abbrev pub refused_text : Refusal → List ℕ
@@ -69,10 +71,12 @@ step_text (step.Bad s) = codes "bad " ++ hex_text s.line
 step_text (step.Rest s) = codes "rest"
 step_text (step.Ls s) = codes "ls " ++ path_text s.path
 step_text (step.Cat s) = codes "cat " ++ path_text s.path
+step_text (step.Dts s) = codes "dts " ++ path_text s.path
 step_text (step.Run s) = codes "run " ++ path_text s.path
 step_text (step.Mkdir s) = codes "mkdir " ++ path_text s.path
 step_text (step.Rm s) = codes "rm " ++ path_text s.path
 step_text (step.Write s) = codes "write " ++ path_text s.path ++ codes " " ++ hex_text s.bytes
+step_text (step.Asm s) = codes "asm " ++ path_text s.source ++ codes " " ++ path_text s.target
 
 -- A reply is written as its row says.
 abbrev pub reply_text : Reply → List ℕ
@@ -80,10 +84,12 @@ reply_text (reply.Bad why) = refused_text why
 reply_text reply.Rest = codes "ok"
 reply_text (reply.Ls r) = given_text names_text r
 reply_text (reply.Cat r) = given_text hex_text r
+reply_text (reply.Dts r) = given_text hex_text r
 reply_text (reply.Run r) = given_text hex_text r
 reply_text (reply.Mkdir r) = done_text r
 reply_text (reply.Rm r) = done_text r
 reply_text (reply.Write r) = done_text r
+reply_text (reply.Asm r) = given_text decimal r
 
 -- The parts of an event's line stand one space apart.
 unfoldable pub event_text : Event → List ℕ

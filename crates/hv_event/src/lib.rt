@@ -12,7 +12,7 @@ mod step;
 pub use event::{ActorId, CellId, Event};
 pub use print::{print_event, print_refusal};
 pub use reply::{Refusal, Reply};
-pub use step::{Bad, Cat, Ls, Mkdir, Rest, Rm, Run, Step, Write};
+pub use step::{Asm, Bad, Cat, Dts, Ls, Mkdir, Rest, Rm, Run, Step, Write};
 
 #[cfg(test)]
 mod tests;

@@ -90,6 +90,14 @@ fn push_refusal(alloc: Global, to: &mut Bytes, refusal: Refusal) -> Result<(), A
         Refusal::NotEmpty => to.append(b"NotEmpty"),
         Refusal::TooDeep => to.append(b"TooDeep"),
         Refusal::TooLong => to.append(b"TooLong"),
+        Refusal::BadTree(offset) => {
+            to.append(b"BadTree ")?;
+            push_decimal(alloc, to, offset)
+        }
+        Refusal::BadAsm(line) => {
+            to.append(b"BadAsm ")?;
+            push_decimal(alloc, to, line)
+        }
     }
 }
 
@@ -151,6 +159,22 @@ fn push_given_names(
     }
 }
 
+fn push_given_number(
+    alloc: Global,
+    to: &mut Bytes,
+    answer: &Result<u64, Refusal>,
+) -> Result<(), AllocError>
+    ensures { OnOk result (to.new ≡ to.old ++ given_text decimal answer.now) }
+{
+    match answer {
+        Ok(number) => {
+            to.append(b"ok ")?;
+            push_decimal(alloc, to, *number)
+        }
+        Err(refusal) => push_refused(alloc, to, *refusal),
+    }
+}
+
 fn push_with_path(alloc: Global, to: &mut Bytes, word: &[u8], path: &Path) -> Result<(), AllocError>
     ensures { OnOk result (to.new ≡ to.old ++ (word.now ++ path_text path.now)) }
 {
@@ -169,6 +193,7 @@ fn push_step(alloc: Global, to: &mut Bytes, step: &Step) -> Result<(), AllocErro
         Step::Rest(_) => to.append(b"rest"),
         Step::Ls(ls) => push_with_path(alloc, to, b"ls ", &ls.path),
         Step::Cat(cat) => push_with_path(alloc, to, b"cat ", &cat.path),
+        Step::Dts(dts) => push_with_path(alloc, to, b"dts ", &dts.path),
         Step::Run(run) => push_with_path(alloc, to, b"run ", &run.path),
         Step::Mkdir(mkdir) => push_with_path(alloc, to, b"mkdir ", &mkdir.path),
         Step::Rm(rm) => push_with_path(alloc, to, b"rm ", &rm.path),
@@ -176,6 +201,10 @@ fn push_step(alloc: Global, to: &mut Bytes, step: &Step) -> Result<(), AllocErro
             push_with_path(alloc, to, b"write ", &write.path)?;
             to.append(b" ")?;
             push_bytes(alloc, to, &write.bytes)
+        }
+        Step::Asm(asm) => {
+            push_with_path(alloc, to, b"asm ", &asm.source)?;
+            push_with_path(alloc, to, b" ", &asm.target)
         }
     }
 }
@@ -188,10 +217,12 @@ fn push_reply(alloc: Global, to: &mut Bytes, reply: &Reply) -> Result<(), AllocE
         Reply::Rest => to.append(b"ok"),
         Reply::Ls(answer) => push_given_names(alloc, to, answer),
         Reply::Cat(answer) => push_given_bytes(alloc, to, answer),
+        Reply::Dts(answer) => push_given_bytes(alloc, to, answer),
         Reply::Run(answer) => push_given_bytes(alloc, to, answer),
         Reply::Mkdir(answer) => push_done(alloc, to, answer),
         Reply::Rm(answer) => push_done(alloc, to, answer),
         Reply::Write(answer) => push_done(alloc, to, answer),
+        Reply::Asm(answer) => push_given_number(alloc, to, answer),
     }
 }
 

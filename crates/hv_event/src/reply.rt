@@ -22,6 +22,10 @@ pub enum Refusal {
     TooDeep,
     /// The scripts have too many lines.
     TooLong,
+    /// The file is no source of a device tree; the place is the offset of the first byte at fault.
+    BadTree(u64),
+    /// The file is no assembler source; the number, from 1, is that of the first line at fault.
+    BadAsm(u64),
 }
 
 /// One variant for each step: what it gives, or why it is refused.
@@ -32,9 +36,13 @@ pub enum Reply {
     /// The names in the folder; a folder's name has a `/` behind it.
     Ls(Result<Strings, Refusal>),
     Cat(Result<Bytes, Refusal>),
+    /// The bytes of the source.
+    Dts(Result<Bytes, Refusal>),
     /// The bytes of the script.
     Run(Result<Bytes, Refusal>),
     Mkdir(Result<(), Refusal>),
     Rm(Result<(), Refusal>),
     Write(Result<(), Refusal>),
+    /// The number of words in the image.
+    Asm(Result<u64, Refusal>),
 }

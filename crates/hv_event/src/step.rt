@@ -23,6 +23,12 @@ pub struct Cat {
     pub path: Path,
 }
 
+/// Reads a file as the source of a device tree.
+#[derive(Debug, Drop)]
+pub struct Dts {
+    pub path: Path,
+}
+
 /// Opens a file as a script.
 #[derive(Debug, Drop)]
 pub struct Run {
@@ -48,6 +54,13 @@ pub struct Write {
     pub bytes: Bytes,
 }
 
+/// Assembles the source file into the target file.
+#[derive(Debug, Drop)]
+pub struct Asm {
+    pub source: Path,
+    pub target: Path,
+}
+
 /// What is done, with the data that its text shows.
 #[derive(Debug, Drop)]
 pub enum Step {
@@ -55,8 +68,10 @@ pub enum Step {
     Rest(Rest),
     Ls(Ls),
     Cat(Cat),
+    Dts(Dts),
     Run(Run),
     Mkdir(Mkdir),
     Rm(Rm),
     Write(Write),
+    Asm(Asm),
 }
