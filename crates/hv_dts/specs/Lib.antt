@@ -4,3 +4,8 @@ pub mod Source
 pub mod Steps
 pub mod Lexed
 pub mod Refused
+pub mod Contents
+pub mod Bytes
+pub mod Rules
+pub mod Resolved
+pub mod Reading

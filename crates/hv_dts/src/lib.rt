@@ -1,10 +1,12 @@
 //! Device tree source.
 #![tactic(auto)]
 
+mod contents;
 mod grammar;
 mod lexed;
 mod print;
 mod print_line;
+mod refusal;
 mod step;
 mod symbol;
 mod syntax;
@@ -13,4 +15,5 @@ mod tests;
 mod word;
 
 pub use print::print_dts;
+pub use refusal::DtsRefusal;
 pub use syntax::{SyntaxRefusal, source_tokens};
