@@ -7,6 +7,8 @@ use Rattle.hv_files.specs.FileMap.{load_files as load_pairs}
 use Rattle.hv_files.specs.declared.refusal.FileRefusal.{FileRefusal}
 use Rattle.hv_files.specs.declared.refusal.FileRefusal.TheVariants as file
 use Rattle.hv_bundle.specs.declared.file.File.{File}
+use Rattle.hv_dtree.specs.declared.node.Node.{Node}
+use Rattle.hv_dts.specs.Reading.{IsSourceOf, IsRefusedAt}
 use Rattle.hv_event.specs.declared.step.Step.{Step}
 use Rattle.hv_event.specs.declared.step.Step.TheVariants as step
 use Rattle.hv_event.specs.declared.reply.Reply.{Reply}
@@ -51,10 +53,19 @@ FindsScript (Ok bytes) r lines =
     × ((r ≡ Ok bytes) ⊎ ((r ≡ Err refusal.TooDeep) ⊎ (r ≡ Err refusal.TooLong)))
 FindsScript (Err why) r lines = (lines ≡ None) × ((r ≡ Err (refusal_of why)) ⊎ (r ≡ Err refusal.TooDeep))
 
+-- A file that is a device tree source is answered by its own bytes, and another by where it is refused; where there is
+-- no file, the reply says why.
+abbrev pub AnswersSource : Result (List ℕ) FileRefusal → Result (List ℕ) Refusal → Type 0
+AnswersSource (Ok bytes) (Ok given) = (given ≡ bytes) × (tree : Node) × IsSourceOf bytes tree
+AnswersSource (Ok bytes) (Err (refusal.BadTree offset)) = IsRefusedAt bytes offset
+AnswersSource (Ok bytes) (Err why) = ⊥
+AnswersSource (Err why) r = r ≡ Err (refusal_of why)
+
 -- The files agree to a step where the reply is the one that they give.
 abbrev pub FilesAgree : FileMap → Step → Reply → Carry → Type 0
 FilesAgree m (step.Ls s) r c = r ≡ reply.Ls (answered (list_folder m s.path))
 FilesAgree m (step.Cat s) r c = r ≡ reply.Cat (answered (read_file m s.path))
+FilesAgree m (step.Dts s) (reply.Dts r) c = AnswersSource (read_file m s.path) r
 FilesAgree m (step.Run s) (reply.Run r) c = FindsScript (read_file m s.path) r c.lines
 FilesAgree m (step.Mkdir s) r c = r ≡ reply.Mkdir (done (made_folder m s.path))
 FilesAgree m (step.Rm s) r c = r ≡ reply.Rm (done (without m s.path))

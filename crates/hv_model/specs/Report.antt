@@ -9,6 +9,9 @@ use Rattle.hv_event.specs.declared.reply.Reply.{Reply}
 use Rattle.hv_event.specs.declared.reply.Reply.TheVariants as reply
 use Rattle.hv_event.specs.declared.reply.Refusal.{Refusal}
 use Rattle.hv_event.specs.Line.{event_text, refusal_text}
+use Rattle.hv_dtree.specs.declared.node.Node.{Node}
+use Rattle.hv_dts.specs.Printed.{tree_text}
+use Rattle.hv_dts.specs.Reading.{IsSourceOf}
 use Rattle.hv_model.specs.Origin.{Origin, terminals}
 use Rattle.hv_model.specs.Terminal.{TerminalState, Begun, begun, terminal_after}
 use Rattle.hv_model.specs.Legal.{terminal_at_start}
@@ -39,26 +42,39 @@ answer_shown given (Err why) = refused_shown why
 abbrev pub nothing_shown : {A : Type 0} → A → List ℕ
 nothing_shown a = []
 
--- What the reply to a command shows.
-abbrev pub reply_shown : Reply → List ℕ
-reply_shown (reply.Bad why) = refused_shown why
-reply_shown reply.Rest = line (codes "< ok")
-reply_shown (reply.Ls r) = answer_shown names_shown r
-reply_shown (reply.Cat r) = answer_shown shown r
-reply_shown (reply.Run r) = answer_shown nothing_shown r
-reply_shown (reply.Mkdir r) = answer_shown nothing_shown r
-reply_shown (reply.Rm r) = answer_shown nothing_shown r
-reply_shown (reply.Write r) = answer_shown nothing_shown r
-
 -- A line that is begun shows itself.
 abbrev pub begin_shown : ℕ → Option Begun → List ℕ
 begin_shown (suc n) b = []
 begin_shown zero None = []
 begin_shown zero (Some b) = line (codes "> " ++ b.line)
 
--- What the reply to a command may show.
+-- A text is assembled to so many words.
+abbrev pub words_shown : ℕ → List ℕ
+words_shown count = line (decimal count ++ codes " words")
+
+-- A device tree source shows its tree, printed anew, and then that the command is done.
+pub record ShowsTree (source text : List ℕ) : Type 0 where
+  pub tree : Node
+  pub stands : IsSourceOf source tree
+  pub text_is : text ≡ tree_text tree ++ line (codes "< ok")
+
+-- What a reading of a source shows.
+abbrev pub ShowsSource : Result (List ℕ) Refusal → List ℕ → Type 0
+ShowsSource (Ok source) text = ShowsTree source text
+ShowsSource (Err why) text = text ≡ refused_shown why
+
+-- What the reply to a command shows.
 abbrev pub ShowsReply : Reply → List ℕ → Type 0
-ShowsReply r text = text ≡ reply_shown r
+ShowsReply (reply.Bad why) text = text ≡ refused_shown why
+ShowsReply reply.Rest text = text ≡ line (codes "< ok")
+ShowsReply (reply.Ls r) text = text ≡ answer_shown names_shown r
+ShowsReply (reply.Cat r) text = text ≡ answer_shown shown r
+ShowsReply (reply.Dts r) text = ShowsSource r text
+ShowsReply (reply.Run r) text = text ≡ answer_shown nothing_shown r
+ShowsReply (reply.Mkdir r) text = text ≡ answer_shown nothing_shown r
+ShowsReply (reply.Rm r) text = text ≡ answer_shown nothing_shown r
+ShowsReply (reply.Write r) text = text ≡ answer_shown nothing_shown r
+ShowsReply (reply.Asm r) text = text ≡ answer_shown words_shown r
 
 -- A line that is done shows what came of it.
 abbrev pub ShowsEnd : ℕ → Reply → List ℕ → Type 0

@@ -76,6 +76,7 @@ opened b script =
 abbrev pub step_of : Command → Step
 step_of (command.VfsLs path) = step.Ls (record { path = path })
 step_of (command.VfsCat path) = step.Cat (record { path = path })
+step_of (command.VfsDts path) = step.Dts (record { path = path })
 step_of (command.VfsMkdir path) = step.Mkdir (record { path = path })
 step_of (command.VfsRm path) = step.Rm (record { path = path })
 step_of (command.VfsWrite path text) = step.Write (record { path = path; bytes = text })

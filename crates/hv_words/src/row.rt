@@ -11,7 +11,6 @@ pub enum RowName {
     VfsMkdir,
     VfsRm,
     VfsWrite,
-    VfsAsm,
     VfsRun,
     TermRest,
 }
@@ -37,9 +36,6 @@ fn file_row(name: &[u8]) -> Option<RowName>
     }
     if name == b"write".as_slice() {
         return Some(RowName::VfsWrite);
-    }
-    if name == b"asm".as_slice() {
-        return Some(RowName::VfsAsm);
     }
     if name == b"run".as_slice() {
         return Some(RowName::VfsRun);
