@@ -11,6 +11,7 @@ use Rattle.hv_event.specs.declared.step.Step.TheVariants as step
 abbrev pub IsFilesStep : Step → Type 0
 IsFilesStep (step.Ls s) = Unit {0}
 IsFilesStep (step.Cat s) = Unit {0}
+IsFilesStep (step.Dts s) = Unit {0}
 IsFilesStep (step.Mkdir s) = 0 < length s.path
 IsFilesStep (step.Rm s) = 0 < length s.path
 IsFilesStep (step.Write s) = 0 < length s.path

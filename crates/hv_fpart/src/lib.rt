@@ -3,10 +3,11 @@
 
 ghost use Rattle.std.specs.Prelude.{◌≡◌, ◌<◌, length, IfOk, OnOk, OnErr, Ok, map};
 ghost use Rattle.hv_model.specs.Entry.{nothing};
-ghost use Rattle.hv_model.specs.Files.{FilesAgree, files_after, answered, done, changed};
+ghost use Rattle.hv_model.specs.Files.{FilesAgree, AnswersSource, files_after, answered, done, changed};
 ghost use Rattle.hv_files.specs.FileMap.{read_file, list_folder, made_folder, with_file, without};
 ghost use Rattle.hv_fpart.specs.Part.{IsFilesStep, IsShownAs};
 
+use hv_dts::{DtsRefusal, read_dts};
 use hv_event::{Refusal, Reply, Step};
 use hv_files::{FileRefusal, FileTree};
 use hv_text::{Bytes, Path, Strings};
@@ -45,6 +46,36 @@ pub fn read_part(
 {
     match files.get(path) {
         Ok(bytes) => Ok(Ok(Bytes::from_vec(Vec::from_slice(alloc, bytes)?))),
+        Err(refusal) => Ok(Err(shown(refusal)?)),
+    }
+}
+
+/// What a text is answered that may be a device tree source.
+fn source_answer(alloc: Global, text: &[u8]) -> Result<Result<Bytes, Refusal>, AllocError>
+    ensures { IfOk result (AnswersSource (Ok text.now)) }
+{
+    let offset = match read_dts(alloc, text) {
+        Ok(_) => return Ok(Ok(Bytes::from_vec(Vec::from_slice(alloc, text)?))),
+        Err(DtsRefusal::BadToken(offset)) => offset,
+        Err(DtsRefusal::Unexpected(offset)) => offset,
+        Err(DtsRefusal::TwiceNamed(offset)) => offset,
+        Err(DtsRefusal::BadPhandle(offset)) => offset,
+        Err(DtsRefusal::NoLabel(offset)) => offset,
+        Err(DtsRefusal::Memory(error)) => return Err(error),
+    };
+    Ok(Err(Refusal::BadTree(offset as u64)))
+}
+
+/// The bytes of a device tree source, copied, or why there are none.
+fn source_part(
+    alloc: Global,
+    files: &FileTree,
+    path: &Path,
+) -> Result<Result<Bytes, Refusal>, AllocError>
+    ensures { IfOk result (AnswersSource (read_file files.now path.now)) }
+{
+    match files.get(path) {
+        Ok(text) => source_answer(alloc, text),
         Err(refusal) => Ok(Err(shown(refusal)?)),
     }
 }
@@ -102,12 +133,13 @@ pub fn files_part(alloc: Global, files: &mut FileTree, step: &Step) -> Result<Re
     match step {
         Step::Ls(ls) => Ok(Reply::Ls(listed(files, &ls.path)?)),
         Step::Cat(cat) => Ok(Reply::Cat(read_part(alloc, files, &cat.path)?)),
+        Step::Dts(dts) => Ok(Reply::Dts(source_part(alloc, files, &dts.path)?)),
         Step::Mkdir(mkdir) => Ok(Reply::Mkdir(folder_made(files, &mkdir.path)?)),
         Step::Rm(rm) => Ok(Reply::Rm(removed(files, &rm.path)?)),
         Step::Write(write) => {
             let bytes = write.bytes.clone()?;
             Ok(Reply::Write(written(files, &write.path, bytes)?))
         }
-        Step::Bad(_) | Step::Rest(_) | Step::Run(_) => unreachable!(),
+        Step::Bad(_) | Step::Rest(_) | Step::Run(_) | Step::Asm(_) => unreachable!(),
     }
 }

@@ -65,7 +65,8 @@ AnswersSource (Err why) r = r ≡ Err (refusal_of why)
 abbrev pub FilesAgree : FileMap → Step → Reply → Carry → Type 0
 FilesAgree m (step.Ls s) r c = r ≡ reply.Ls (answered (list_folder m s.path))
 FilesAgree m (step.Cat s) r c = r ≡ reply.Cat (answered (read_file m s.path))
-FilesAgree m (step.Dts s) (reply.Dts r) c = AnswersSource (read_file m s.path) r
+FilesAgree m (step.Dts s) r c =
+    (answer : Result (List ℕ) Refusal) × (r ≡ reply.Dts answer) × AnswersSource (read_file m s.path) answer
 FilesAgree m (step.Run s) (reply.Run r) c = FindsScript (read_file m s.path) r c.lines
 FilesAgree m (step.Mkdir s) r c = r ≡ reply.Mkdir (done (made_folder m s.path))
 FilesAgree m (step.Rm s) r c = r ≡ reply.Rm (done (without m s.path))

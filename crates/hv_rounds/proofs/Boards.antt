@@ -58,10 +58,12 @@ files-among (step.Bad s) = refl
 files-among (step.Rest s) = refl
 files-among (step.Ls s) = refl
 files-among (step.Cat s) = refl
+files-among (step.Dts s) = refl
 files-among (step.Run s) = refl
 files-among (step.Mkdir s) = refl
 files-among (step.Rm s) = refl
 files-among (step.Write s) = refl
+files-among (step.Asm s) = refl
 
 touch-files : (O : Origin) (e : Entry) → touches (machine O) (Component component.Files) e ≡ touches_files e.event.step
 touch-files O e = files-among e.event.step
@@ -76,10 +78,12 @@ part-of old new own e (step.Bad s) h = leaves refl refl h
 part-of old new own e (step.Rest s) h = leaves refl refl h
 part-of old new own e (step.Ls s) h = takes refl refl h
 part-of old new own e (step.Cat s) h = takes refl refl h
+part-of old new own e (step.Dts s) h = takes refl refl h
 part-of old new own e (step.Run s) h = takes refl refl h
 part-of old new own e (step.Mkdir s) h = takes refl refl h
 part-of old new own e (step.Rm s) h = takes refl refl h
 part-of old new own e (step.Write s) h = takes refl refl h
+part-of old new own e (step.Asm s) h = takes refl refl h
 
 module _ (O : Origin) (s : State (machine O)) (b b' : Board) (t : ℕ) (e : Entry) (d : TerminalCell) (below : t < 4)
     (holds : Holds O s b) (made : IsBoardStep b b' t e) where

@@ -1,3 +1,4 @@
+pub mod Shown
 pub mod Stacks
 pub mod Steps
 pub mod Boards

@@ -153,18 +153,22 @@ line-own t line x xs own (step.Bad s) r = refl
 line-own t line x xs own (step.Rest s) r = refl
 line-own t line x xs own (step.Ls s) r = refl
 line-own t line x xs own (step.Cat s) r = refl
+line-own t line x xs own (step.Dts s) r = refl
 line-own t line x xs own (step.Run s) (reply.Bad why) = refl
 line-own t line x xs own (step.Run s) reply.Rest = refl
 line-own t line x xs own (step.Run s) (reply.Ls a) = refl
 line-own t line x xs own (step.Run s) (reply.Cat a) = refl
+line-own t line x xs own (step.Run s) (reply.Dts a) = refl
 line-own t line x xs own (step.Run s) (reply.Run (Ok script)) = refl
 line-own t line x xs own (step.Run s) (reply.Run (Err why)) = refl
 line-own t line x xs own (step.Run s) (reply.Mkdir a) = refl
 line-own t line x xs own (step.Run s) (reply.Rm a) = refl
 line-own t line x xs own (step.Run s) (reply.Write a) = refl
+line-own t line x xs own (step.Run s) (reply.Asm a) = refl
 line-own t line x xs own (step.Mkdir s) r = refl
 line-own t line x xs own (step.Rm s) r = refl
 line-own t line x xs own (step.Write s) r = refl
+line-own t line x xs own (step.Asm s) r = refl
 
 made-own : (t : TerminalState) (rests : ℕ) (next : Option (List ℕ × Scripts)) (s : Step) (r : Reply) → (rests ≡ 0 → next ≡ None → ⊥)
     → ((n : List ℕ × Scripts) → next ≡ Some n → (x : List (List ℕ)) × (xs : Scripts) × (n.1 ≡ x ∷ xs))

@@ -85,20 +85,24 @@ files-replies b lines (step.Bad s) r c kind = absurd kind
 files-replies b lines (step.Rest s) r c kind = absurd kind
 files-replies b lines (step.Ls s) r c kind = tt
 files-replies b lines (step.Cat s) r c kind = tt
+files-replies b lines (step.Dts s) r c kind = tt
 files-replies b lines (step.Run s) r c kind = absurd kind
 files-replies b lines (step.Mkdir s) r c kind = tt
 files-replies b lines (step.Rm s) r c kind = tt
 files-replies b lines (step.Write s) r c kind = tt
+files-replies b lines (step.Asm s) r c kind = absurd kind
 
 pub files-hand-nothing : (s : Step) (c : Carry) → IsFilesStep s → handed_over s c ≡ nothing
 files-hand-nothing (step.Bad s) c kind = refl
 files-hand-nothing (step.Rest s) c kind = refl
 files-hand-nothing (step.Ls s) c kind = refl
 files-hand-nothing (step.Cat s) c kind = refl
+files-hand-nothing (step.Dts s) c kind = refl
 files-hand-nothing (step.Run s) c kind = absurd kind
 files-hand-nothing (step.Mkdir s) c kind = refl
 files-hand-nothing (step.Rm s) c kind = refl
 files-hand-nothing (step.Write s) c kind = refl
+files-hand-nothing (step.Asm s) c kind = refl
 
 pub files-begin : (t : TerminalState) (b : Begun) (s : Step) (r : Reply) → IsFilesStep s
     → line_begun t b s r ≡ record { count = t.count + 1; rests = 0; boot = b.boot; own = b.own; lines = t.lines }
@@ -106,20 +110,24 @@ files-begin t b (step.Bad s) r kind = refl
 files-begin t b (step.Rest s) r kind = absurd kind
 files-begin t b (step.Ls s) r kind = refl
 files-begin t b (step.Cat s) r kind = refl
+files-begin t b (step.Dts s) r kind = refl
 files-begin t b (step.Run s) r kind = absurd kind
 files-begin t b (step.Mkdir s) r kind = refl
 files-begin t b (step.Rm s) r kind = refl
 files-begin t b (step.Write s) r kind = refl
+files-begin t b (step.Asm s) r kind = refl
 
 pub files-touch : (s : Step) (old new : FileCell) (own : ℕ) (e : Entry) → IsFilesStep s → TouchesFiles old new own e → FilesPart s old new own e
 files-touch (step.Bad s) old new own e kind h = absurd kind
 files-touch (step.Rest s) old new own e kind h = absurd kind
 files-touch (step.Ls s) old new own e kind h = h
 files-touch (step.Cat s) old new own e kind h = h
+files-touch (step.Dts s) old new own e kind h = h
 files-touch (step.Run s) old new own e kind h = absurd kind
 files-touch (step.Mkdir s) old new own e kind h = h
 files-touch (step.Rm s) old new own e kind h = h
 files-touch (step.Write s) old new own e kind h = h
+files-touch (step.Asm s) old new own e kind h = h
 
 -- a line that gives no command
 
@@ -134,6 +142,8 @@ bad-said b lines refusal.Exists c bad = absurd bad
 bad-said b lines refusal.NotEmpty c bad = absurd bad
 bad-said b lines refusal.TooDeep c bad = absurd bad
 bad-said b lines refusal.TooLong c bad = absurd bad
+bad-said b lines (refusal.BadTree k) c bad = absurd bad
+bad-said b lines (refusal.BadAsm k) c bad = absurd bad
 
 -- a script that is run
 

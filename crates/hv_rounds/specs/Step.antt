@@ -1,9 +1,12 @@
 -- One step of a terminal over the files.
-use Rattle.std.specs.Prelude.{◌≡◌, ℕ, ◌+◌, ◌^◌, ◌++◌, max, Option, Some, Result, Err, List}
+use Rattle.std.specs.Prelude.{◌≡◌, ℕ, ◌+◌, ◌^◌, ◌++◌, max, Option, Some, Result, Ok, Err, List}
 use Rattle.hv_event.specs.declared.event.ActorId.TheVariants as actor
 use Rattle.hv_event.specs.declared.step.Step.{Step}
 use Rattle.hv_event.specs.declared.step.Step.TheVariants as step
 use Rattle.hv_event.specs.declared.reply.Reply.{Reply}
+use Rattle.hv_event.specs.declared.reply.Reply.TheVariants as reply
+use Rattle.hv_dtree.specs.declared.node.Node.{Node}
+use Rattle.hv_dts.specs.Reading.{IsSourceOf}
 use Rattle.hv_model.specs.declared.entry.Entry.{Entry}
 use Rattle.hv_model.specs.Files.{FilesAgree, files_after}
 use Rattle.hv_event.specs.declared.reply.Refusal.{Refusal}
@@ -79,6 +82,11 @@ pub record IsAsked (line : List ℕ) (s : Step) : Type 0 where
   pub asked : Command
   pub gives : Gives line asked
   pub step_is : s ≡ step_of asked
+
+-- what a reply shows is there: a source that is shown stands for a tree
+abbrev pub IsShowable : Reply → Type 0
+IsShowable (reply.Dts (Ok source)) = (tree : Node) × IsSourceOf source tree
+IsShowable r = Unit {0}
 
 -- behind what a terminal has shown stands what a reply shows
 pub record AppendsReply (r : Reply) (old new : List ℕ) : Type 0 where

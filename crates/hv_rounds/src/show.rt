@@ -1,12 +1,15 @@
 //! What a terminal shows.
-ghost use Rattle.std.specs.Prelude.{◌≡◌, ◌++◌, ◌∷◌, [], OnOk, codes};
+ghost use Rattle.std.specs.Prelude.{◌≡◌, ◌++◌, ◌∷◌, [], Ok, OnOk, codes};
+ghost use Rattle.hv_dtree.specs.declared.node.Node.{Node};
+ghost use Rattle.hv_dts.specs.Reading.{IsSourceOf};
 ghost use Rattle.std.specs.List.{flat_map};
 ghost use Rattle.hv_event.specs.Line.{refusal_text};
-ghost use Rattle.hv_model.specs.Report.{line, shown, names_shown, answer_shown, nothing_shown, refused_shown};
-ghost use Rattle.hv_rounds.specs.Step.{AppendsReply};
+ghost use Rattle.hv_model.specs.Report.{line, shown, names_shown, answer_shown, nothing_shown, words_shown, refused_shown};
+ghost use Rattle.hv_rounds.specs.Step.{IsShowable, AppendsReply};
 
+use hv_dts::{DtsRefusal, print_dts, read_dts};
 use hv_event::{Refusal, Reply, print_refusal};
-use hv_text::{Bytes, Strings};
+use hv_text::{Bytes, Strings, push_decimal};
 use std::alloc::{AllocError, Global};
 
 fn push_line(to: &mut Bytes, text: &[u8]) -> Result<(), AllocError>
@@ -119,8 +122,58 @@ fn push_changed(
     }
 }
 
+/// The tree of a source, printed anew.
+fn push_tree(alloc: Global, to: &mut Bytes, source: &[u8]) -> Result<(), AllocError>
+    requires { (tree : Node) × IsSourceOf source.now tree }
+    ensures { OnOk result (AppendsReply (Reply.Dts (Ok source.now)) to.old to.new) }
+{
+    let tree = match read_dts(alloc, source) {
+        Ok(tree) => tree,
+        Err(DtsRefusal::Memory(error)) => return Err(error),
+        Err(DtsRefusal::BadToken(_)) => unreachable!(),
+        Err(DtsRefusal::Unexpected(_)) => unreachable!(),
+        Err(DtsRefusal::TwiceNamed(_)) => unreachable!(),
+        Err(DtsRefusal::BadPhandle(_)) => unreachable!(),
+        Err(DtsRefusal::NoLabel(_)) => unreachable!(),
+    };
+    to.append(print_dts(alloc, &tree)?.as_slice())?;
+    push_done(to)
+}
+
+fn push_source(
+    alloc: Global,
+    to: &mut Bytes,
+    answer: &Result<Bytes, Refusal>,
+) -> Result<(), AllocError>
+    requires { IsShowable (Reply.Dts answer.now) }
+    ensures { OnOk result (AppendsReply (Reply.Dts answer.now) to.old to.new) }
+{
+    match answer {
+        Ok(source) => push_tree(alloc, to, source.as_slice()),
+        Err(why) => push_refused(alloc, to, *why),
+    }
+}
+
+fn push_assembled(
+    alloc: Global,
+    to: &mut Bytes,
+    answer: &Result<u64, Refusal>,
+) -> Result<(), AllocError>
+    ensures { OnOk result (to.new ≡ to.old ++ answer_shown words_shown answer.now) }
+{
+    match answer {
+        Ok(count) => {
+            push_decimal(alloc, to, *count)?;
+            push_line(to, b" words")?;
+            push_done(to)
+        }
+        Err(why) => push_refused(alloc, to, *why),
+    }
+}
+
 /// What the reply to a command shows.
 pub fn push_reply(alloc: Global, to: &mut Bytes, reply: &Reply) -> Result<(), AllocError>
+    requires { IsShowable reply.now }
     ensures { OnOk result (AppendsReply reply.now to.old to.new) }
 {
     match reply {
@@ -128,9 +181,11 @@ pub fn push_reply(alloc: Global, to: &mut Bytes, reply: &Reply) -> Result<(), Al
         Reply::Rest => push_done(to),
         Reply::Ls(answer) => push_listed(alloc, to, answer),
         Reply::Cat(answer) => push_read(alloc, to, answer),
+        Reply::Dts(answer) => push_source(alloc, to, answer),
         Reply::Run(answer) => push_run(alloc, to, answer),
         Reply::Mkdir(answer) => push_changed(alloc, to, answer),
         Reply::Rm(answer) => push_changed(alloc, to, answer),
         Reply::Write(answer) => push_changed(alloc, to, answer),
+        Reply::Asm(answer) => push_assembled(alloc, to, answer),
     }
 }

@@ -12,7 +12,7 @@ use crate::files::FileCell;
 use crate::script::{RunAnswer, answer_run};
 use crate::stop::Stop;
 use crate::terminal::{Terminal, next_stamp};
-use hv_event::{Bad, Cat, Ls, Mkdir, Refusal, Reply, Rest, Rm, Run, Step, Write};
+use hv_event::{Bad, Cat, Dts, Ls, Mkdir, Refusal, Reply, Rest, Rm, Run, Step, Write};
 use hv_fpart::{files_part, read_part};
 use hv_model::Entry;
 use hv_text::{Bytes, Path};
@@ -130,6 +130,7 @@ fn step_command(
     match command {
         Command::VfsLs(path) => step_files(alloc, files, terminal, line, Step::Ls(Ls { path })),
         Command::VfsCat(path) => step_files(alloc, files, terminal, line, Step::Cat(Cat { path })),
+        Command::VfsDts(path) => step_files(alloc, files, terminal, line, Step::Dts(Dts { path })),
         Command::VfsMkdir(path) => {
             step_files(alloc, files, terminal, line, Step::Mkdir(Mkdir { path }))
         }

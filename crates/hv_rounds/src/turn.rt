@@ -17,7 +17,7 @@ use std::alloc::{AllocError, Global};
 
 impl Terminal {
     ghost use Rattle.hv_rounds.specs.Cells.{SameButShown};
-    ghost use Rattle.hv_rounds.specs.Step.{AppendsEnd};
+    ghost use Rattle.hv_rounds.specs.Step.{IsShowable, AppendsEnd};
     ghost use Rattle.hv_model.specs.Report.{line};
     ghost use Rattle.std.specs.Prelude.{codes};
 
@@ -31,6 +31,7 @@ impl Terminal {
 
     /// Shows what came of a line, where that is done.
     pub fn show_end(&mut self, alloc: Global, reply: &Reply) -> Result<(), AllocError>
+        requires { IsShowable reply.now }
         ensures same { SameButShown self.old self.new }
         ensures shown { OnOk result (
             AppendsEnd self.old.rests reply.now self.old.shown self.new.shown) }
