@@ -1,0 +1,114 @@
+-- The plan of a guest, or its first fault.
+use Rattle.std.specs.Prelude.{◌≡◌, ℕ, Bool, ◌||◌, List, [], ◌∷◌, ◌++◌, length, map, nat_lt, codes, Option, Some, None, Result, Ok, Err, Vec}
+use Rattle.std.specs.declared.alloc.Global.{Global}
+use Rattle.std.specs.List.{flat_map, enumerate_from}
+use Rattle.std.specs.Option.{option_and_then}
+use Rattle.hv_text.specs.Path.{path_text}
+use Rattle.hv_dtree.specs.Nodes.{node_at, child_named, children_of, name_of}
+use Rattle.hv_dtree.specs.declared.node.Node.{Node}
+use Rattle.hv_region.specs.declared.plan.RegionPlan.{RegionPlan}
+use Rattle.hv_plan.specs.Properties.{nodes_in, first_of}
+use Rattle.hv_plan.specs.Vcpus.{when, vcpu_causes, vcpu_plan}
+use Rattle.hv_plan.specs.Regions.{region_causes}
+use Rattle.hv_plan.specs.Links.{link_causes, region_plans}
+use Rattle.hv_plan.specs.Windows.{overlap_causes, alias_causes}
+use Rattle.hv_plan.specs.declared.guest.GuestPlan.{GuestPlan}
+use Rattle.hv_plan.specs.declared.refusal.Cause.{Cause}
+use Rattle.hv_plan.specs.declared.refusal.Cause.TheVariants.{Missing, TooMany}
+use Rattle.hv_plan.specs.declared.refusal.PlanRefusal.{PlanRefusal}
+use Rattle.hv_plan.specs.declared.refusal.PlanRefusal.TheVariants.{NoGuest, BadNode, Memory}
+
+-- the path of a faulty node, and what is wrong with it
+abbrev pub Fault : Type 0
+Fault = List ℕ × Cause
+
+-- what is wrong with each of some items, which have names and stand in one node
+abbrev pub faults_from : {X : Type 0} → List (List ℕ) → (X → List ℕ) → (ℕ → X → List Cause) → ℕ → List X → List Fault
+faults_from above name causes row items =
+    flat_map (λ it. map (λ cause. (path_text (above ++ name it.1 ∷ []), cause)) (causes it.0 it.1)) (enumerate_from row items)
+
+-- the nodes of a guest's VCPUs and regions
+abbrev pub vcpus_of : Node → List Node
+vcpus_of guest = nodes_in guest (codes "vcpus")
+
+abbrev pub regions_of : Node → List Node
+regions_of guest = nodes_in guest (codes "aspace")
+
+-- a guest without VCPUs or regions, or with too many
+abbrev pub is_empty : List Node → Bool
+is_empty nodes = nat_lt (length nodes) 1
+
+abbrev pub guest_causes : Node → List Cause
+guest_causes guest =
+    when (is_empty (vcpus_of guest) || is_empty (regions_of guest)) Missing
+    ++ when (nat_lt 4 (length (vcpus_of guest)) || nat_lt 16 (length (regions_of guest))) TooMany
+
+-- the paths to a guest and to the nodes in which its VCPUs and its regions stand
+abbrev pub in_guests : List (List ℕ)
+in_guests = codes "guests" ∷ []
+
+abbrev pub in_vcpus : Node → List (List ℕ)
+in_vcpus guest = codes "guests" ∷ name_of guest ∷ codes "vcpus" ∷ []
+
+abbrev pub in_regions : Node → List (List ℕ)
+in_regions guest = codes "guests" ∷ name_of guest ∷ codes "aspace" ∷ []
+
+-- the address space of a guest
+abbrev pub aspace_of : Node → Option Node
+aspace_of guest = child_named (codes "aspace") (children_of guest)
+
+-- the plans of a guest's regions
+abbrev pub plans_of : List (List ℕ × ℕ) → Node → List RegionPlan
+plans_of areas guest = region_plans areas (aspace_of guest) (regions_of guest)
+
+-- what is wrong with a guest, each VCPU and each region by themselves, then with the regions' interrupts, then windows
+-- that meet, then aliases without a target: all faults in the order in which they are told
+abbrev pub faults_of : List (List ℕ × ℕ) → Node → List Fault
+faults_of areas guest =
+    faults_from in_guests name_of (λ row node. guest_causes node) 0 (guest ∷ [])
+    ++ (faults_from (in_vcpus guest) name_of (λ row node. vcpu_causes node) 0 (vcpus_of guest)
+    ++ (faults_from (in_regions guest) name_of (λ row node. region_causes areas node) 0 (regions_of guest)
+    ++ (faults_from (in_regions guest) name_of (link_causes (aspace_of guest) (regions_of guest)) 0 (regions_of guest)
+    ++ (faults_from (in_regions guest) (λ plan. plan.name) (overlap_causes (plans_of areas guest)) 0 (plans_of areas guest)
+    ++ faults_from (in_regions guest) (λ plan. plan.name) (alias_causes (plans_of areas guest)) 0 (plans_of areas guest)))))
+
+-- a plan is what the guest's node says
+pub record IsPlan (areas : List (List ℕ × ℕ)) (guest : Node) (plan : GuestPlan) : Type 0 where
+  pub name : plan.name ≡ name_of guest
+  pub vcpus : plan.vcpus.items ≡ map vcpu_plan (vcpus_of guest)
+  pub regions : plan.regions.items ≡ plans_of areas guest
+
+-- the plan of a guest where nothing is wrong, or its first fault, or that there is no such guest
+abbrev pub Plans : List (List ℕ × ℕ) → Option Node → Result GuestPlan PlanRefusal → Type 0
+Plans areas None (Ok plan) = ⊥
+Plans areas None (Err NoGuest) = Unit {0}
+Plans areas None (Err (BadNode path cause)) = ⊥
+Plans areas None (Err (Memory e)) = Unit {0}
+Plans areas (Some guest) (Ok plan) = (faults_of areas guest ≡ []) × IsPlan areas guest plan
+Plans areas (Some guest) (Err NoGuest) = ⊥
+Plans areas (Some guest) (Err (BadNode path cause)) = first_of (faults_of areas guest) ≡ Some (path, cause)
+Plans areas (Some guest) (Err (Memory e)) = Unit {0}
+
+-- the node of a guest
+abbrev pub guest_node : Node → List ℕ → Option Node
+guest_node root name = node_at (codes "guests" ∷ name ∷ []) root
+
+-- what was read from some nodes where nothing is wrong, or the first of their faults
+abbrev pub Reads : {X : Type 0} → List Fault → List X → Result (Vec X Global) PlanRefusal → Type 0
+Reads faults items (Ok found) = (faults ≡ []) × (found.items ≡ items)
+Reads faults items (Err NoGuest) = ⊥
+Reads faults items (Err (BadNode path cause)) = first_of faults ≡ Some (path, cause)
+Reads faults items (Err (Memory e)) = Unit {0}
+
+-- that nothing is wrong, or the first fault
+abbrev pub Passes : List Fault → Result (Unit {0}) PlanRefusal → Type 0
+Passes faults (Ok _) = faults ≡ []
+Passes faults (Err NoGuest) = ⊥
+Passes faults (Err (BadNode path cause)) = first_of faults ≡ Some (path, cause)
+Passes faults (Err (Memory e)) = Unit {0}
+
+-- a fault, unless memory ran out
+abbrev pub Tells : Fault → PlanRefusal → Type 0
+Tells fault NoGuest = ⊥
+Tells fault (BadNode path cause) = (path, cause) ≡ fault
+Tells fault (Memory e) = Unit {0}

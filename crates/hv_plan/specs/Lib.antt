@@ -1,0 +1,7 @@
+pub mod Properties
+pub mod Settings
+pub mod Vcpus
+pub mod Regions
+pub mod Links
+pub mod Windows
+pub mod Guests

@@ -1,0 +1,70 @@
+-- Which region takes the interrupts of another, and the clock.
+use Rattle.std.specs.Prelude.{ℕ, Bool, true, false, ◌&&◌, ◌==◌, not, List, [], ◌∷◌, ◌++◌, take, map, if◌then◌else◌, codes, unwrap_or, Option, Some, None}
+use Rattle.std.specs.List.{list_any, position_from, enumerate_from}
+use Rattle.std.specs.Option.{option_map_or, option_map, option_and_then, option_or}
+use Rattle.hv_text.specs.declared.address.AddressType.TheVariants.{Memory}
+use Rattle.hv_dtree.specs.Nodes.{prop_value, name_of}
+use Rattle.hv_dtree.specs.declared.node.Node.{Node}
+use Rattle.hv_region.specs.declared.plan.RegionPlan.{RegionPlan}
+use Rattle.hv_plan.specs.Properties.{has, cell_in, cell_of}
+use Rattle.hv_plan.specs.Vcpus.{when}
+use Rattle.hv_plan.specs.Regions.{is_device, sort_of, source_of, type_of, base_of, size_of, form_by}
+use Rattle.hv_plan.specs.declared.refusal.Cause.{Cause}
+use Rattle.hv_plan.specs.declared.refusal.Cause.TheVariants.{Parent, SourceUsed}
+
+-- a device with interrupts, which are ignored on other regions
+abbrev pub interrupts : Node → Bool
+interrupts node = is_device node && has node (codes "interrupts")
+
+-- the phandle of a region's parent: its own property, or else that of the address space, where it is one cell
+abbrev pub parent_phandle : Option Node → Node → Option ℕ
+parent_phandle aspace node =
+    option_and_then cell_in (option_or (prop_value node (codes "interrupt-parent")) (option_and_then (λ above. prop_value above (codes "interrupt-parent")) aspace))
+
+-- whether a region has a phandle
+abbrev pub has_phandle : ℕ → Node → Bool
+has_phandle phandle region = option_map_or (λ own. own == phandle) (cell_of region (codes "phandle")) false
+
+-- the row of the region that takes a device's interrupts, and the source there, where both are known
+abbrev pub link_of : Option Node → List Node → Node → Option (ℕ × ℕ)
+link_of aspace regions node =
+    if interrupts node
+    then option_and_then (λ phandle. option_and_then (λ row. option_map (λ source. (row, source)) (source_of node)) (position_from (has_phandle phandle) 0 regions)) (parent_phandle aspace node)
+    else None
+
+-- the link leads to another region
+abbrev pub leads_from : ℕ → Option (ℕ × ℕ) → Bool
+leads_from row None = false
+leads_from row (Some link) = not (link.0 == row)
+
+-- two links lead to one source
+abbrev pub is_same_link : Option (ℕ × ℕ) → Option (ℕ × ℕ) → Bool
+is_same_link (Some one) (Some other) = (one.0 == other.0) && (one.1 == other.1)
+is_same_link _ _ = false
+
+-- what is wrong with a region's interrupts: it has no other region as its parent, or an earlier region has its source
+abbrev pub link_causes : Option Node → List Node → ℕ → Node → List Cause
+link_causes aspace regions row node =
+    when (interrupts node && not (leads_from row (link_of aspace regions node))) Parent
+    ++ when (list_any (λ earlier. is_same_link (link_of aspace regions earlier) (link_of aspace regions node)) (take row regions)) SourceUsed
+
+-- the row of the guest's clock, its first device that is marked as one
+abbrev pub clock_row : List Node → Option ℕ
+clock_row regions = position_from (λ node. is_device node && has node (codes "clock")) 0 regions
+
+-- the plan of the region in a row, where nothing is wrong with it
+abbrev pub region_plan : List (List ℕ × ℕ) → Option Node → List Node → ℕ → Node → RegionPlan
+region_plan areas aspace regions row node = record {
+  name = name_of node;
+  kind = unwrap_or (type_of node) Memory;
+  base = unwrap_or (base_of node) 0;
+  size = unwrap_or (size_of node) 0;
+  form = form_by areas node (sort_of node);
+  detached = has node (codes "detached");
+  clock = option_map_or (λ clock. clock == row) (clock_row regions) false;
+  parent = link_of aspace regions node;
+}
+
+-- the plans of all regions in their order
+abbrev pub region_plans : List (List ℕ × ℕ) → Option Node → List Node → List RegionPlan
+region_plans areas aspace regions = map (λ it. region_plan areas aspace regions it.0 it.1) (enumerate_from 0 regions)

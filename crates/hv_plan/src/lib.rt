@@ -1,0 +1,17 @@
+//! The settings of a host and the plans of its guests, as a device tree says them.
+//! area: memory of the host that guests can share
+//! guest: a child of `/guests`; its VCPUs and its regions stand in nodes of their own
+//! row: the number of a region in its guest, from 0
+//! fault: a node that breaks a rule, by its path, and the cause
+#![tactic(auto)]
+
+mod guest;
+mod host;
+mod properties;
+mod refusal;
+mod sort;
+mod vcpu;
+
+pub use guest::GuestPlan;
+pub use host::Host;
+pub use refusal::{Cause, HostRefusal, PlanRefusal};

@@ -1,0 +1,67 @@
+//! What is wrong with a tree.
+ghost use Rattle.std.specs.Prelude.{◌≡◌};
+
+use hv_text::{Bytes, LimitName};
+use std::alloc::AllocError;
+
+/// Why a node of a guest gives no plan.
+#[derive(Clone, Copy, Debug, PartialEq, Eq)]
+pub enum Cause {
+    /// A child or a property isn't there.
+    Missing,
+    /// There are more children than allowed.
+    TooMany,
+    /// The manifest or the address type is none of its texts.
+    Kind,
+    /// Any other rule of the node is broken.
+    Form,
+    /// The area of a real region isn't there.
+    NoArea,
+    /// A device with interrupts has no other region as its parent.
+    Parent,
+    /// An earlier region has the same parent and source.
+    SourceUsed,
+    /// An earlier region has an address of this one.
+    Overlap,
+    /// No region that is no alias has all addresses that an alias stands for.
+    AliasTarget,
+}
+
+/// Why there is no plan of a guest.
+#[derive(Debug, Drop)]
+pub enum PlanRefusal {
+    NoGuest,
+    /// The path of the first faulty node.
+    BadNode(Bytes, Cause),
+    Memory(AllocError),
+}
+
+impl From<AllocError> for PlanRefusal {
+    ghost use Rattle.hv_plan.specs.declared.refusal.PlanRefusal.TheVariants.{Memory};
+
+    ghost from_gives = { λ error refusal. refusal ≡ Memory error };
+
+    fn from(error: AllocError) -> PlanRefusal {
+        PlanRefusal::Memory(error)
+    }
+}
+
+/// Why there are no settings.
+#[derive(Debug, Drop)]
+pub enum HostRefusal {
+    /// The path of the first faulty node.
+    BadHost(Bytes),
+    /// More than allowed, and how many.
+    Limit(LimitName, u64),
+    Memory(AllocError),
+}
+
+impl From<AllocError> for HostRefusal {
+    ghost use Rattle.hv_plan.specs.declared.refusal.HostRefusal.TheVariants.{Memory};
+
+    ghost from_gives = { λ error refusal. refusal ≡ Memory error };
+
+    fn from(error: AllocError) -> HostRefusal {
+        HostRefusal::Memory(error)
+    }
+}
