@@ -9,18 +9,8 @@ ghost use Rattle.hv_model.specs.Files.{load_files};
 
 use hv_bundle::File;
 use hv_files::{FileRefusal, FileTree};
-use hv_text::{Bytes, Path, PathRefusal};
+use hv_text::{Bytes, Path};
 use std::alloc::{AllocError, Global};
-
-fn root(alloc: Global) -> Result<Path, AllocError>
-    ensures { IfOk result (λ path. path ≡ []) }
-{
-    match Path::read(alloc, b"/") {
-        Ok(path) => Ok(path),
-        Err(PathRefusal::NotAPath) => Err(AllocError),
-        Err(PathRefusal::Memory(refused)) => Err(refused),
-    }
-}
 
 fn is_folder(tree: &FileTree, path: &Path) -> bool
     ensures { IsTrue result → read_file tree.now path.now ≡ Err IsDir }
@@ -70,7 +60,7 @@ fn add_file(alloc: Global, tree: &mut FileTree, path: &Path, bytes: &[u8]) -> Re
     ensures { OnOk result (tree.new ≡ with_way tree.old path.now bytes.now) }
 {
     let held = Bytes::from_vec(Vec::from_slice(alloc, bytes)?);
-    let mut front = root(alloc)?;
+    let mut front = Path::root(alloc);
     for place in 0..path.len() - 1 {
         push_name(alloc, &mut front, path, place)?;
         make_folder(tree, &front)?;

@@ -120,6 +120,15 @@ fn push_names(to: &mut Bytes, names: &[Bytes]) -> Result<(), AllocError>
 }
 
 impl Path {
+    /// The root.
+    pub fn root(alloc: Global) -> Path
+        ensures { result ≡ [] }
+    {
+        Path {
+            names: Vec::new(alloc),
+        }
+    }
+
     /// Reads `/`, or one or more names, each after a `/`.
     pub fn read(alloc: Global, text: &[u8]) -> Result<Path, PathRefusal>
         // The text is that of what was read.
@@ -130,8 +139,7 @@ impl Path {
             → ArePathNames names → text.now ≡ path_text names → Reads result names }
     {
         if text == b"/".as_slice() {
-            let names = Vec::new(alloc);
-            return Ok(Path { names });
+            return Ok(Path::root(alloc));
         }
         let names = read_names(alloc, text)?;
         if names.is_empty() {

@@ -46,6 +46,7 @@ fn lines_with_and_without_returns(rt: HostRuntime) {
 #[test]
 fn paths_both_ways(rt: HostRuntime) -> Result<(), Fail> {
     let alloc = rt.alloc();
+    assert_eq!(rt; Path::root(alloc).text(alloc)?.as_slice(), b"/".as_slice());
     for text in [b"/".as_slice(), b"/boot.xscript", b"/a/b-c/_d"] {
         let Ok(path) = Path::read(alloc, text) else {
             assert!(rt; false);

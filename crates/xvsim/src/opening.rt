@@ -13,7 +13,7 @@ use hv_bundle::File;
 use hv_files::FileTree;
 use hv_load::load_tree;
 use hv_model::{Files, Opening};
-use hv_text::{Bytes, Path, PathRefusal, Strings};
+use hv_text::{Bytes, Path, Strings};
 use std::alloc::{AllocError, Global};
 
 /// An opening, and the tree of its files.
@@ -23,21 +23,11 @@ pub struct Start {
     pub files: FileTree,
 }
 
-fn root(alloc: Global) -> Result<Path, AllocError>
-    ensures { IfOk result (λ path. path ≡ []) }
-{
-    match Path::read(alloc, b"/") {
-        Ok(path) => Ok(path),
-        Err(PathRefusal::NotAPath) => Err(AllocError),
-        Err(PathRefusal::Memory(refused)) => Err(refused),
-    }
-}
-
 /// The path of this one name.
 fn named(alloc: Global, name: &[u8]) -> Result<Path, AllocError>
     ensures { IfOk result (λ path. path ≡ name.now ∷ []) }
 {
-    let mut path = root(alloc)?;
+    let mut path = Path::root(alloc);
     path.push(Bytes::from_vec(Vec::from_slice(alloc, name)?))?;
     Ok(path)
 }

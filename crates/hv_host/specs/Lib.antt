@@ -1,0 +1,4 @@
+pub mod Boards
+pub use Rattle.hv_dts.specs.Reading
+pub use Rattle.hv_plan.specs.Settings
+pub use Rattle.hv_plan.specs.Guests
