@@ -38,20 +38,22 @@ regions_of guest = nodes_in guest (codes "aspace")
 abbrev pub is_empty : List Node → Bool
 is_empty nodes = nat_lt (length nodes) 1
 
+abbrev pub causes_of_count : List Node → List Node → List Cause
+causes_of_count vcpus regions =
+    when (is_empty vcpus || is_empty regions) Missing ++ when (nat_lt 4 (length vcpus) || nat_lt 16 (length regions)) TooMany
+
 abbrev pub guest_causes : Node → List Cause
-guest_causes guest =
-    when (is_empty (vcpus_of guest) || is_empty (regions_of guest)) Missing
-    ++ when (nat_lt 4 (length (vcpus_of guest)) || nat_lt 16 (length (regions_of guest))) TooMany
+guest_causes guest = causes_of_count (vcpus_of guest) (regions_of guest)
 
 -- the paths to a guest and to the nodes in which its VCPUs and its regions stand
 abbrev pub in_guests : List (List ℕ)
 in_guests = codes "guests" ∷ []
 
-abbrev pub in_vcpus : Node → List (List ℕ)
-in_vcpus guest = codes "guests" ∷ name_of guest ∷ codes "vcpus" ∷ []
+abbrev pub in_vcpus : List ℕ → List (List ℕ)
+in_vcpus guest = codes "guests" ∷ guest ∷ codes "vcpus" ∷ []
 
-abbrev pub in_regions : Node → List (List ℕ)
-in_regions guest = codes "guests" ∷ name_of guest ∷ codes "aspace" ∷ []
+abbrev pub in_regions : List ℕ → List (List ℕ)
+in_regions guest = codes "guests" ∷ guest ∷ codes "aspace" ∷ []
 
 -- the address space of a guest
 abbrev pub aspace_of : Node → Option Node
@@ -61,16 +63,30 @@ aspace_of guest = child_named (codes "aspace") (children_of guest)
 abbrev pub plans_of : List (List ℕ × ℕ) → Node → List RegionPlan
 plans_of areas guest = region_plans areas (aspace_of guest) (regions_of guest)
 
--- what is wrong with a guest, each VCPU and each region by themselves, then with the regions' interrupts, then windows
--- that meet, then aliases without a target: all faults in the order in which they are told
+-- the faults of a guest by itself, of each VCPU and of each region
+abbrev pub own_faults : Node → List Fault
+own_faults guest = faults_from in_guests name_of (λ row node. guest_causes node) 0 (guest ∷ [])
+
+abbrev pub vcpu_faults : Node → List Fault
+vcpu_faults guest = faults_from (in_vcpus (name_of guest)) name_of (λ row node. vcpu_causes node) 0 (vcpus_of guest)
+
+abbrev pub region_faults : List (List ℕ × ℕ) → Node → List Fault
+region_faults areas guest = faults_from (in_regions (name_of guest)) name_of (λ row node. region_causes areas node) 0 (regions_of guest)
+
+-- those of the regions' interrupts, of windows that meet and of aliases without a target
+abbrev pub link_faults : Node → List Fault
+link_faults guest = faults_from (in_regions (name_of guest)) name_of (link_causes (aspace_of guest) (regions_of guest)) 0 (regions_of guest)
+
+abbrev pub window_faults : List (List ℕ × ℕ) → Node → List Fault
+window_faults areas guest = faults_from (in_regions (name_of guest)) (λ plan. plan.name) (overlap_causes (plans_of areas guest)) 0 (plans_of areas guest)
+
+abbrev pub alias_faults : List (List ℕ × ℕ) → Node → List Fault
+alias_faults areas guest = faults_from (in_regions (name_of guest)) (λ plan. plan.name) (alias_causes (plans_of areas guest)) 0 (plans_of areas guest)
+
+-- all faults of a guest in the order in which they are told
 abbrev pub faults_of : List (List ℕ × ℕ) → Node → List Fault
 faults_of areas guest =
-    faults_from in_guests name_of (λ row node. guest_causes node) 0 (guest ∷ [])
-    ++ (faults_from (in_vcpus guest) name_of (λ row node. vcpu_causes node) 0 (vcpus_of guest)
-    ++ (faults_from (in_regions guest) name_of (λ row node. region_causes areas node) 0 (regions_of guest)
-    ++ (faults_from (in_regions guest) name_of (link_causes (aspace_of guest) (regions_of guest)) 0 (regions_of guest)
-    ++ (faults_from (in_regions guest) (λ plan. plan.name) (overlap_causes (plans_of areas guest)) 0 (plans_of areas guest)
-    ++ faults_from (in_regions guest) (λ plan. plan.name) (alias_causes (plans_of areas guest)) 0 (plans_of areas guest)))))
+    own_faults guest ++ (vcpu_faults guest ++ (region_faults areas guest ++ (link_faults guest ++ (window_faults areas guest ++ alias_faults areas guest))))
 
 -- a plan is what the guest's node says
 pub record IsPlan (areas : List (List ℕ × ℕ)) (guest : Node) (plan : GuestPlan) : Type 0 where

@@ -42,15 +42,29 @@ abbrev pub is_same_link : Option (ℕ × ℕ) → Option (ℕ × ℕ) → Bool
 is_same_link (Some one) (Some other) = (one.0 == other.0) && (one.1 == other.1)
 is_same_link _ _ = false
 
--- what is wrong with a region's interrupts: it has no other region as its parent, or an earlier region has its source
-abbrev pub link_causes : Option Node → List Node → ℕ → Node → List Cause
-link_causes aspace regions row node =
-    when (interrupts node && not (leads_from row (link_of aspace regions node))) Parent
-    ++ when (list_any (λ earlier. is_same_link (link_of aspace regions earlier) (link_of aspace regions node)) (take row regions)) SourceUsed
+-- the links of all regions
+abbrev pub links_of : Option Node → List Node → List (Option (ℕ × ℕ))
+links_of aspace regions = map (link_of aspace regions) regions
 
--- the row of the guest's clock, its first device that is marked as one
+-- what is wrong with the interrupts of the region in a row: it has no other region as its parent, or an earlier region
+-- has its source
+abbrev pub causes_of_link : List (Option (ℕ × ℕ)) → ℕ → Node → Option (ℕ × ℕ) → List Cause
+causes_of_link links row node link =
+    when (interrupts node && not (leads_from row link)) Parent ++ when (list_any (is_same_link link) (take row links)) SourceUsed
+
+abbrev pub link_causes : Option Node → List Node → ℕ → Node → List Cause
+link_causes aspace regions row node = causes_of_link (links_of aspace regions) row node (link_of aspace regions node)
+
+-- a device that is marked as a clock
+abbrev pub is_clock : Node → Bool
+is_clock node = is_device node && has node (codes "clock")
+
+-- the row of the guest's clock, the first of these
 abbrev pub clock_row : List Node → Option ℕ
-clock_row regions = position_from (λ node. is_device node && has node (codes "clock")) 0 regions
+clock_row regions = position_from is_clock 0 regions
+
+abbrev pub is_row : Option ℕ → ℕ → Bool
+is_row clock row = option_map_or (λ clock. clock == row) clock false
 
 -- the plan of the region in a row, where nothing is wrong with it
 abbrev pub region_plan : List (List ℕ × ℕ) → Option Node → List Node → ℕ → Node → RegionPlan
@@ -61,7 +75,7 @@ region_plan areas aspace regions row node = record {
   size = unwrap_or (size_of node) 0;
   form = form_by areas node (sort_of node);
   detached = has node (codes "detached");
-  clock = option_map_or (λ clock. clock == row) (clock_row regions) false;
+  clock = is_row (clock_row regions) row;
   parent = link_of aspace regions node;
 }
 

@@ -38,8 +38,18 @@ abbrev pub size_of : Node → Option ℕ
 size_of node = number_of node (codes "physical_size")
 
 -- the place of the area that a region shows, and where in it the region begins
+abbrev pub is_named : List ℕ → List ℕ × ℕ → Bool
+is_named name area = pointwise nat_eq area.0 name
+
 abbrev pub area_of : List (List ℕ × ℕ) → Node → Option ℕ
-area_of areas node = option_and_then (λ name. position_from (λ area. pointwise nat_eq area.0 name) 0 areas) (text_of node (codes "host_area"))
+area_of areas node = option_and_then (λ name. position_from (is_named name) 0 areas) (text_of node (codes "host_area"))
+
+abbrev pub area_row : List (List ℕ × ℕ) → Node → ℕ
+area_row areas node = unwrap_or (area_of areas node) 0
+
+-- how many bytes that area has
+abbrev pub area_len : List (List ℕ × ℕ) → Node → Option ℕ
+area_len areas node = option_and_then (λ area. option_map (λ it. it.1) (slice_get areas area)) (area_of areas node)
 
 abbrev pub offset_of : Node → Option ℕ
 offset_of node = number_or 0 node (codes "area_offset")
@@ -84,8 +94,8 @@ is_range (Some kind) (Some base) (Some size) = nat_le 1 size && nat_le (base + s
 is_range _ _ _ = false
 
 -- a part of an area, if the area is there
-abbrev pub is_part : Option ℕ → Option ℕ → Option (List ℕ × ℕ) → Bool
-is_part (Some offset) (Some size) (Some area) = nat_le (offset + size) area.1
+abbrev pub is_part : Option ℕ → Option ℕ → Option ℕ → Bool
+is_part (Some offset) (Some size) (Some area) = nat_le (offset + size) area
 is_part (Some offset) _ _ = true
 is_part None _ _ = false
 
@@ -95,7 +105,7 @@ keeps_sort areas node None = true
 keeps_sort areas node (Some Ram) = is_within 1 16777216 (size_of node)
 keeps_sort areas node (Some Rom) = is_within 1 16777216 (size_of node)
 keeps_sort areas node (Some Device) = not (has node (codes "interrupts")) || is_some (source_of node)
-keeps_sort areas node (Some Real) = is_part (offset_of node) (size_of node) (option_and_then (λ area. slice_get areas area) (area_of areas node))
+keeps_sort areas node (Some Real) = is_part (offset_of node) (size_of node) (area_len areas node)
 keeps_sort areas node (Some Alias) = is_some (alias_of node)
 
 abbrev pub is_region : List (List ℕ × ℕ) → Node → Bool
@@ -120,5 +130,5 @@ form_by areas node None = form.Ram
 form_by areas node (Some Ram) = form.Ram
 form_by areas node (Some Rom) = form.Rom
 form_by areas node (Some Device) = form.Device (compatible_of node)
-form_by areas node (Some Real) = form.Real (unwrap_or (area_of areas node) 0) (unwrap_or (offset_of node) 0)
+form_by areas node (Some Real) = form.Real (area_row areas node) (unwrap_or (offset_of node) 0)
 form_by areas node (Some Alias) = form.Alias (unwrap_or (alias_of node) 0)

@@ -1,6 +1,8 @@
 -- The settings of a host and their limits.
-use Rattle.std.specs.Prelude.{◌≡◌, ℕ, ◌+◌, Bool, ◌&&◌, not, List, [], ◌∷◌, ◌++◌, length, map, filter, max, nat_le, if◌then◌else◌, codes, unwrap_or, Option, Some, None, Result, Ok, Err}
-use Rattle.std.specs.List.{fold}
+use Rattle.std.specs.Prelude.{◌≡◌, ℕ, ◌+◌, Bool, ◌&&◌, not, List, [], ◌∷◌, ◌++◌, length, map, filter, max, nat_le, if◌then◌else◌, codes, unwrap_or, true, false, Option, Some, None, Result, Ok, Err, Vec}
+use Rattle.std.specs.declared.alloc.Global.{Global}
+use denote.Ref.{Bor}
+use Rattle.std.specs.List.{flat_map}
 use Rattle.std.specs.Option.{option_and_then, option_map_or}
 use Rattle.hv_text.specs.Path.{path_text}
 use Rattle.hv_text.specs.declared.limit.LimitName.{LimitName}
@@ -58,7 +60,8 @@ host_faults root = machine_faults root ++ area_faults (areas_of root)
 
 -- the greatest of some numbers, or zero
 abbrev pub greatest : List ℕ → ℕ
-greatest ns = fold (λ most n. max most n) 0 ns
+greatest [] = 0
+greatest (n ∷ ns) = max n (greatest ns)
 
 -- how many nodes lie in one another, from a node down
 unfoldable pub nest_of : Node → ℕ
@@ -68,15 +71,22 @@ nest_of = fold-Node ℕ (λ layer. 1 + greatest layer.children)
 abbrev pub over : LimitName → ℕ → ℕ → List (LimitName × ℕ)
 over name most number = if nat_le number most then [] else (name, number) ∷ []
 
--- the limits that a host passes, in their order, with what was counted
+-- the limits that are passed, in their order, with what was counted
+abbrev pub passed : ℕ → ℕ → ℕ → List (LimitName × ℕ)
+passed nest areas guests = over Nest 32 nest ++ (over Areas 8 areas ++ over Guests 32 guests)
+
 abbrev pub limits_passed : Node → List (LimitName × ℕ)
-limits_passed root = over Nest 32 (nest_of root) ++ (over Areas 8 (length (areas_of root)) ++ over Guests 32 (length (guests_of root)))
+limits_passed root = passed (nest_of root) (length (areas_of root)) (length (guests_of root))
+
+-- an area's name and how many bytes it has
+abbrev pub area_of_node : Node → List ℕ × ℕ
+area_of_node node = (name_of node, unwrap_or (area_size node) 0)
 
 -- a host is what the tree says of it
 pub record IsHost (root : Node) (host : Host) : Type 0 where
   pub harts : harts_of root ≡ Some host.harts
   pub turns : turns_of root ≡ Some host.turns
-  pub areas : host.areas.items ≡ map (λ node. (name_of node, unwrap_or (area_size node) 0)) (areas_of root)
+  pub areas : host.areas.items ≡ map area_of_node (areas_of root)
   pub guests : host.guests.items ≡ map name_of (guests_of root)
 
 -- a host where nothing is wrong, or the first limit that is passed, or else the first faulty node
@@ -85,3 +95,33 @@ Settles root (Ok host) = (limits_passed root ≡ []) × (host_faults root ≡ []
 Settles root (Err (Limit name number)) = first_of (limits_passed root) ≡ Some (name, number)
 Settles root (Err (BadHost path)) = (limits_passed root ≡ []) × (first_of (host_faults root) ≡ Some path)
 Settles root (Err (Memory e)) = Unit {0}
+
+-- the settings of harts and turns, or that they break their rules
+abbrev pub IsMachine : Node → Option (ℕ × ℕ) → Type 0
+IsMachine root None = is_machine root ≡ false
+IsMachine root (Some machine) = (is_machine root ≡ true) × (harts_of root ≡ Some machine.0) × (turns_of root ≡ Some machine.1)
+
+-- how many bytes an area has, or that it breaks its rules
+abbrev pub IsArea : Node → Option ℕ → Type 0
+IsArea node None = is_area node ≡ false
+IsArea node (Some size) = (is_area node ≡ true) × (area_size node ≡ Some size)
+
+-- a faulty node, unless memory ran out
+abbrev pub TellsHost : List ℕ → HostRefusal → Type 0
+TellsHost path (BadHost found) = found ≡ path
+TellsHost path (Limit name number) = ⊥
+TellsHost path (Memory e) = Unit {0}
+
+-- the areas of nodes, or the first faulty one
+abbrev pub ReadsAreas : List Node → Result (Vec (List ℕ × ℕ) Global) HostRefusal → Type 0
+ReadsAreas nodes (Ok areas) = (area_faults nodes ≡ []) × (areas.items ≡ map area_of_node nodes)
+ReadsAreas nodes (Err (BadHost path)) = first_of (area_faults nodes) ≡ Some path
+ReadsAreas nodes (Err (Limit name number)) = ⊥
+ReadsAreas nodes (Err (Memory e)) = Unit {0}
+
+-- nodes that are lent, and the children of all of some nodes
+abbrev pub nodes_at : List (Bor Node) → List Node
+nodes_at lent = map (λ node. node.now) lent
+
+abbrev pub all_children : List Node → List Node
+all_children nodes = flat_map children_of nodes

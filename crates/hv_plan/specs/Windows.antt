@@ -23,19 +23,27 @@ meets one other = is_same_type one.kind other.kind && nat_lt one.base (other.bas
 abbrev pub holds : RegionPlan → AddressType → ℕ → ℕ → Bool
 holds region kind base size = is_same_type region.kind kind && nat_le region.base base && nat_le (base + size) (region.base + region.size)
 
--- a region that is to be built meets an earlier one that is
+-- an earlier region that is to be built has an address of this one
+abbrev pub blocks : RegionPlan → RegionPlan → Bool
+blocks region earlier = not earlier.detached && meets earlier region
+
+-- what is wrong with a region that is to be built where an earlier one stands
 abbrev pub overlap_causes : List RegionPlan → ℕ → RegionPlan → List Cause
-overlap_causes regions row region =
-    when (not region.detached && list_any (λ earlier. not earlier.detached && meets earlier region) (take row regions)) Overlap
+overlap_causes regions row region = when (not region.detached && list_any (blocks region) (take row regions)) Overlap
 
 abbrev pub is_alias : Form → Bool
 is_alias (Alias base) = true
 is_alias _ = false
 
--- no region that is to be built and is no alias has the range that an alias stands for
+-- a region that is to be built and is no alias has the whole range that an alias stands for
+abbrev pub has_range : RegionPlan → ℕ → RegionPlan → Bool
+has_range region base other = not other.detached && not (is_alias other.form) && holds other region.kind base region.size
+
+-- an alias whose range no such region has
 abbrev pub lacks_target : List RegionPlan → RegionPlan → Form → Bool
-lacks_target regions region (Alias base) = not (list_any (λ other. not other.detached && not (is_alias other.form) && holds other region.kind base region.size) regions)
+lacks_target regions region (Alias base) = not (list_any (has_range region base) regions)
 lacks_target regions region _ = false
 
+-- what is wrong with an alias that is to be built
 abbrev pub alias_causes : List RegionPlan → ℕ → RegionPlan → List Cause
 alias_causes regions row region = when (not region.detached && lacks_target regions region region.form) AliasTarget

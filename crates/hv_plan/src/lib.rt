@@ -7,11 +7,16 @@
 
 mod guest;
 mod host;
+mod link;
+mod nest;
+mod path;
 mod properties;
 mod refusal;
+mod region;
 mod sort;
 mod vcpu;
+mod windows;
 
-pub use guest::GuestPlan;
-pub use host::Host;
+pub use guest::{GuestPlan, plan_guest};
+pub use host::{Host, host_settings};
 pub use refusal::{Cause, HostRefusal, PlanRefusal};

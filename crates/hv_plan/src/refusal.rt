@@ -2,7 +2,7 @@
 ghost use Rattle.std.specs.Prelude.{◌≡◌};
 
 use hv_text::{Bytes, LimitName};
-use std::alloc::AllocError;
+use std::alloc::{AllocError, AllocFailed};
 
 /// Why a node of a guest gives no plan.
 #[derive(Clone, Copy, Debug, PartialEq, Eq)]
@@ -63,5 +63,29 @@ impl From<AllocError> for HostRefusal {
 
     fn from(error: AllocError) -> HostRefusal {
         HostRefusal::Memory(error)
+    }
+}
+
+impl<T: Drop> From<AllocFailed<T>> for PlanRefusal {
+    ghost use Rattle.hv_plan.specs.declared.refusal.PlanRefusal.TheVariants.{Memory};
+    ghost use Rattle.std.specs.Prelude.{alloc_error};
+
+    ghost from_gives = { λ failed refusal. refusal ≡ Memory alloc_error };
+
+    fn from(failed: AllocFailed<T>) -> PlanRefusal {
+        let AllocFailed { value: _ } = failed;
+        PlanRefusal::Memory(AllocError)
+    }
+}
+
+impl<T: Drop> From<AllocFailed<T>> for HostRefusal {
+    ghost use Rattle.hv_plan.specs.declared.refusal.HostRefusal.TheVariants.{Memory};
+    ghost use Rattle.std.specs.Prelude.{alloc_error};
+
+    ghost from_gives = { λ failed refusal. refusal ≡ Memory alloc_error };
+
+    fn from(failed: AllocFailed<T>) -> HostRefusal {
+        let AllocFailed { value: _ } = failed;
+        HostRefusal::Memory(AllocError)
     }
 }

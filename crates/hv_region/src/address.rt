@@ -9,7 +9,7 @@ pub(crate) const MEMORY_END: u64 = 0x0100_0000_0000_0000;
 const IO_END: u64 = 0x0001_0000_0000;
 
 /// The first address behind those of a type.
-pub(crate) fn end_of(kind: AddressType) -> u64
+pub fn end_of(kind: AddressType) -> u64
     ensures { result ≡ end_of kind }
 {
     match kind {

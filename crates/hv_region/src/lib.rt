@@ -11,7 +11,7 @@ mod plan;
 mod tests;
 mod window;
 
-pub use address::guest_place;
+pub use address::{end_of, guest_place};
 pub use list::WindowList;
 pub use plan::{Form, RegionPlan, VcpuPlan};
 pub use window::{RegionRefusal, Window};

@@ -48,6 +48,8 @@ fn parts_addresses(rt: HostRuntime) -> Result<(), Fail> {
     for (addr, place) in rows {
         assert!(rt; guest_place(addr) == place, "address {addr:x}");
     }
+    assert!(rt; end_of(MEMORY) == 0x0100_0000_0000_0000);
+    assert!(rt; end_of(IO) == 0x0001_0000_0000);
     Ok(())
 }
 
