@@ -15,6 +15,8 @@ opening = record {
       record { path = codes "boot.xscript" ∷ []; bytes = codes "vfs cat /hello" ++ 10 ∷ [] }
       ∷ record { path = codes "hello" ∷ []; bytes = codes "hi" ++ 10 ∷ [] }
       ∷ [];
+  areas = [];
+  plans = [];
   scripts = (codes "vfs cat /hello" ++ 10 ∷ []) ∷ [] ∷ [] ∷ [] ∷ [] ∷ [];
 }
 

@@ -7,7 +7,7 @@ use Rattle.hv_machine.specs.Phases.{together, IsTwoPart}
 use Rattle.hv_event.specs.declared.event.CellId.TheVariants as component
 use Rattle.hv_event.specs.declared.event.ActorId.TheVariants.{Hart, Terminal}
 use Rattle.hv_event.specs.declared.event.Event.{Event}
-use Rattle.hv_model.specs.Origin.{Origin, boot_script, own_script, terminals}
+use Rattle.hv_model.specs.Origin.{Origin, boot_among, own_among, boot_script, own_script, terminals}
 use Rattle.hv_model.specs.Cell.{Cell, Component, Actor, is_actor, rank_of}
 use Rattle.hv_model.specs.Entry.{Entry}
 use Rattle.hv_text.specs.Lines.{script_lines}
@@ -25,8 +25,12 @@ abbrev pub own_at_start : Origin → ℕ → Scripts
 own_at_start O t = commands_of (own_script O t) ∷ []
 
 -- The lines of a terminal's scripts at the start, blank lines and comments included.
+abbrev pub lines_among : List (List ℕ) → ℕ → ℕ
+lines_among scripts t =
+    (if t == 0 then length (script_lines (boot_among scripts)) else 0) + length (script_lines (own_among scripts t))
+
 abbrev pub lines_at_start : Origin → ℕ → ℕ
-lines_at_start O t = (if t == 0 then length (script_lines (boot_script O)) else 0) + length (script_lines (own_script O t))
+lines_at_start O t = lines_among O.opening.scripts t
 
 -- A terminal at the start has made nothing, and has its commands before it.
 abbrev pub terminal_at_start : Origin → ℕ → TerminalState

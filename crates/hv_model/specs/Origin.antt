@@ -11,13 +11,20 @@ abbrev pub origin_of : Opening → Origin
 origin_of o = record { opening = o }
 
 -- The boot script is the first of the scripts; one that isn't there is empty.
-abbrev pub boot_script : Origin → List ℕ
-boot_script O = unwrap_or (slice_get O.opening.scripts 0) []
+abbrev pub boot_among : List (List ℕ) → List ℕ
+boot_among scripts = unwrap_or (slice_get scripts 0) []
 
 -- The own script of a terminal has its number among the scripts behind the first, and there are four terminals; one
 -- that isn't there is empty.
+abbrev pub own_among : List (List ℕ) → ℕ → List ℕ
+own_among scripts t = if nat_lt t 4 then unwrap_or (slice_get scripts (t + 1)) [] else []
+
+-- The scripts of an origin.
+abbrev pub boot_script : Origin → List ℕ
+boot_script O = boot_among O.opening.scripts
+
 abbrev pub own_script : Origin → ℕ → List ℕ
-own_script O t = if nat_lt t 4 then unwrap_or (slice_get O.opening.scripts (t + 1)) [] else []
+own_script O t = own_among O.opening.scripts t
 
 -- There are four terminals.
 abbrev pub terminals : List ℕ

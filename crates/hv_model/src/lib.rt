@@ -11,4 +11,4 @@ mod opening;
 
 pub use entry::{Carry, Entry};
 pub use laws::{closed_board_is_legal, hello_example, rounds_are_legal};
-pub use opening::{Files, Opening};
+pub use opening::Opening;

@@ -1,47 +1,21 @@
 //! What a run begins with.
-ghost use Rattle.std.specs.Prelude.{◌≡◌};
-
 use hv_bundle::File;
-use hv_text::Strings;
-use std::marker::Model;
+use hv_dtree::Items;
+use hv_host::Fault;
+use hv_plan::GuestPlan;
+use hv_text::{Bytes, Strings};
 
-/// The files of a bundle, which contracts see as their list.
-#[derive(Debug, Drop)]
-pub struct Files {
-    items: Vec<File>,
-}
-
-impl Model for Files {
-    ghost use Rattle.std.specs.Prelude.{List};
-    ghost use Rattle.hv_bundle.specs.declared.file.File.{File};
-
-    ghost Value = { List File };
-
-    ghost view = { λ f. f.items.items };
-}
-
-impl Files {
-    /// These files.
-    pub fn from_vec(items: Vec<File>) -> Files
-        ensures { result ≡ items.items }
-    {
-        Files { items }
-    }
-
-    /// The files as a slice.
-    pub fn as_slice(&self) -> &[File]
-        ensures { result.now ≡ self.now }
-    {
-        &self.items
-    }
-}
-
-/// What a run begins with: how many harts, how many turns each makes, the files, and the scripts:
-/// the boot script first, and then those of Terminal 0 upwards.
-#[derive(Debug, Drop)]
+/// What a run begins with.
+#[derive(Drop)]
 pub struct Opening {
     pub harts: u32,
+    /// How many turns each hart makes.
     pub turns: u32,
-    pub files: Files,
+    pub files: Items<File>,
+    /// The name of each area, and how many bytes it has.
+    pub areas: Items<(Bytes, u64)>,
+    /// The plan of each guest of the host tree, or what is wrong with it.
+    pub plans: Items<Result<GuestPlan, Fault>>,
+    /// The boot script, and then those of Terminal 0 upwards.
     pub scripts: Strings,
 }

@@ -1,12 +1,19 @@
 -- What holds of the bytes that a source tells.
-use Rattle.std.proofs.Common.{◌≡◌, ◌≤◌, ℕ, length, List, Option, Some, None, refl, sym, ap, subst, ◌∙◌}
+use Rattle.std.proofs.Common.{◌≡◌, ℕ, List, Option, Some, None, Bool, refl, sym, ap, subst, ◌∙◌, length}
 use Rattle.std.specs.Prelude.{IfSome}
 use Rattle.hv_bundle.specs.declared.file.File.{File}
 use Rattle.hv_bundle.specs.Bundle.{IsBundle}
 use Rattle.hv_model.specs.declared.opening.Opening.{Opening}
-use Rattle.xvsim.specs.Words.{AreRunWords}
-use Rattle.xvsim.specs.Opening.{opening_of, IsOpening}
-use Rattle.xvsim.specs.Limits.{most_bytes, IsInput, AreRunnable}
+use Rattle.xvsim.specs.declared.input.Input.{Input}
+use Rattle.xvsim.specs.declared.kept.KeptRun.{KeptRun}
+use Rattle.xvsim.specs.declared.status.Status.{Status}
+use Rattle.xvsim.specs.declared.status.Status.TheVariants as status
+use Rattle.xvsim.specs.Words.{AreRunWords, AreWords}
+use Rattle.xvsim.specs.Opening.{IsOpening, IsOpeningOf}
+use Rattle.xvsim.specs.Input.{IsWhole, IsReadFrom, IsAllOf}
+use Rattle.xvsim.specs.Run.{IsRunOf}
+use Rattle.xvsim.specs.Check.{IsCheckOf, check_text}
+use Rattle.xvsim.specs.Due.{AreGoodBytes, IsDueStatus, IsDue}
 
 -- what holds of all bytes
 pub always : (P : List ℕ → Type 0) (t : Option (List ℕ)) → ((bytes : List ℕ) → P bytes) → IfSome t P
@@ -23,19 +30,56 @@ pub told : (P : List ℕ → Type 0) (t : Option (List ℕ)) (items : List ℕ) 
 told P t items is p = follows (λ bytes. items ≡ bytes) P t (λ bytes e. subst P e p) is
 
 -- what a run of these files begins with
-pub opening_is : (bytes : List ℕ) (files : List File) (o p : Opening) → IsBundle bytes files → p ≡ opening_of files → o ≡ p → IsOpening bytes o
-opening_is bytes files o p is start same =
-    let whole : o ≡ opening_of files = same ∙ start in
-    let own : files ≡ o.files = sym (ap (λ (q : Opening). q.files) whole) in
+opening_is : (bytes : List ℕ) (input : Input) (o p : Opening) → IsReadFrom bytes input → IsOpeningOf input.files.items o → p ≡ o → IsOpening bytes p
+opening_is bytes input o p read is same =
+    let own : input.files.items ≡ p.files = sym (ap (λ (q : Opening). q.files) same ∙ is.files_are) in
+    let begins : IsOpeningOf input.files.items p = subst (λ (q : Opening). IsOpeningOf input.files.items q) (sym same) is in
     record {
-      bundle = subst (λ (fs : List File). IsBundle bytes fs) own is;
-      start = whole ∙ ap opening_of own;
+      bundle = subst (λ (fs : List File). IsBundle bytes fs) own read.bundle.bundle;
+      start = subst (λ (fs : List File). IsOpeningOf fs p) own begins;
     }
 
--- after a run the files of the bundle were run
-pub due_of_run : (words : List (List ℕ)) (t : Option (List ℕ)) (items slice : List ℕ) (files : List File) → AreRunWords words → IfSome t (λ bytes. items ≡ bytes)
-    → slice ≡ items → length slice ≤ most_bytes → IsBundle slice files → AreRunnable files
-    → IfSome t (λ bytes. AreRunWords words × ((fs : List File) × IsInput bytes fs × AreRunnable fs))
-due_of_run words t items slice files of_run is same size bundle runnable =
-    told (λ bytes. AreRunWords words × ((fs : List File) × IsInput bytes fs × AreRunnable fs)) t items is
-    (subst (λ bytes. AreRunWords words × ((fs : List File) × IsInput bytes fs × AreRunnable fs)) same (of_run, (files, record { size = size; bundle = bundle }, runnable)))
+pub run_of : (told left : Option (List ℕ)) (ended : Bool) (input : Input) (run : KeptRun) (o : Opening) → IsAllOf told left ended input → IsOpeningOf input.files.items o → run.opening ≡ o
+    → IsRunOf told left ended run
+run_of told left ended input run o all is same = record {
+  all_read = all.all_read;
+  nothing_left = all.nothing_left;
+  opening = follows (λ bytes. IsReadFrom bytes input) (λ bytes. IsOpening bytes run.opening) told (λ bytes read. opening_is bytes input o run.opening read is same) all.read;
+}
+
+-- the bytes of an input are good
+pub good_of : (told left : Option (List ℕ)) (ended : Bool) (input : Input) → IsWhole input → IsAllOf told left ended input → IfSome told AreGoodBytes
+good_of told left ended input whole all =
+    follows (λ bytes. IsReadFrom bytes input) AreGoodBytes told
+    (λ bytes read. record { files = input.files.items; input = read.bundle; good = record { within = whole.within; board = input.board; says = whole.board } }) all.read
+
+-- the text of an input's check is that of its bytes
+pub check_of : (told left : Option (List ℕ)) (ended : Bool) (input : Input) (text : List ℕ) → IsWhole input → IsAllOf told left ended input → text ≡ check_text input.files.items input.size input.board
+    → IfSome told (λ bytes. IsCheckOf bytes text)
+check_of told left ended input text whole all is =
+    follows (λ bytes. IsReadFrom bytes input) (λ bytes. IsCheckOf bytes text) told
+    (λ bytes read. record {
+      files = input.files.items;
+      input = read.bundle;
+      within = whole.within;
+      board = input.board;
+      says = whole.board;
+      text_is = is ∙ ap (λ (size : ℕ). check_text input.files.items size input.board) read.size;
+    }) all.read
+
+-- an answer that is due for the bytes is due for the words of a command, and those of a run where the run was stopped
+due_here : (words : List (List ℕ)) (bytes : List ℕ) (s : Status) → AreWords words → ((stamp : ℕ) → s ≡ status.StampsSpent stamp → AreRunWords words) → IsDueStatus bytes s → IsDue words bytes s
+due_here words bytes status.Usage of stopped due = absurd due
+due_here words bytes (status.StampsSpent stamp) of stopped due = (stopped stamp refl, due)
+due_here words bytes status.ReadFault of stopped due = (of, due)
+due_here words bytes status.OutOfMemory of stopped due = (of, due)
+due_here words bytes (status.Limit name number) of stopped due = (of, due)
+due_here words bytes (status.BadBundle offset) of stopped due = (of, due)
+due_here words bytes (status.BadTree offset) of stopped due = (of, due)
+due_here words bytes (status.BadHost path) of stopped due = (of, due)
+due_here words bytes status.Done of stopped due = (of, due)
+due_here words bytes status.WriteFault of stopped due = (of, due)
+
+pub due_of : (words : List (List ℕ)) (told : Option (List ℕ)) (s : Status) → AreWords words → ((stamp : ℕ) → s ≡ status.StampsSpent stamp → AreRunWords words)
+    → IfSome told (λ bytes. IsDueStatus bytes s) → IfSome told (λ bytes. IsDue words bytes s)
+due_of words told s of stopped due = follows (λ bytes. IsDueStatus bytes s) (λ bytes. IsDue words bytes s) told (λ bytes d. due_here words bytes s of stopped d) due

@@ -1,14 +1,16 @@
--- How much a bundle may have, and what is not built.
-use Rattle.std.specs.Prelude.{◌≡◌, ◌≢◌, ℕ, ◌+◌, ◌<◌, ◌≤◌, max, List, [], ◌∷◌, length, map, Ok, codes}
+-- How much a bundle may have.
+use Rattle.std.specs.Prelude.{◌≡◌, ℕ, ◌<◌, ◌≤◌, max, List, [], ◌∷◌, length, map, Err}
 use Rattle.hv_text.specs.declared.limit.LimitName.{LimitName}
 use Rattle.hv_text.specs.declared.limit.LimitName.TheVariants as limit
 use Rattle.hv_bundle.specs.declared.file.File.{File}
 use Rattle.hv_bundle.specs.Bundle.{IsBundle}
-use Rattle.hv_files.specs.FileMap.{Path, FileMap, read_file}
-use Rattle.hv_model.specs.Origin.{origin_of, terminals}
+use Rattle.hv_host.specs.declared.board.Board.{Board}
+use Rattle.hv_host.specs.declared.refusal.BoardRefusal.TheVariants as board
+use Rattle.hv_host.specs.Boards.{Says}
+use Rattle.hv_model.specs.Origin.{terminals}
 use Rattle.hv_model.specs.Files.{load_files}
-use Rattle.hv_model.specs.Legal.{lines_at_start}
-use Rattle.xvsim.specs.Opening.{opening_of}
+use Rattle.hv_model.specs.Legal.{lines_among}
+use Rattle.xvsim.specs.Opening.{scripts_of, host_text, HaveBoard}
 
 -- at most so many bytes in a bundle
 abbrev pub most_bytes : ℕ
@@ -37,19 +39,11 @@ depth_of files = greatest (map (λ (f : File). length f.path) files)
 
 -- how many lines the scripts of a terminal have at the start
 unfoldable pub lines_of : List File → ℕ → ℕ
-lines_of files t = lines_at_start (origin_of (opening_of files)) t
+lines_of files t = lines_among (scripts_of (load_files files)) t
 
 -- how many lines the terminal with the most of them has at the start
 abbrev pub greatest_lines : List File → ℕ
 greatest_lines files = greatest (map (lines_of files) terminals)
-
--- of the limits that the files pass, this is the first one, with the number that passes it
-abbrev pub PassesLimit : List File → LimitName → ℕ → Type 0
-PassesLimit files limit.Files number = (number ≡ length files) × (most_files < number)
-PassesLimit files limit.Depth number = (length files ≤ most_files) × (number ≡ depth_of files) × (most_names < number)
-PassesLimit files limit.Lines number =
-    (length files ≤ most_files) × (depth_of files ≤ most_names) × (number ≡ greatest_lines files) × (most_lines < number)
-PassesLimit files _ number = ⊥
 
 -- the files pass no limit
 pub record AreWithinLimits (files : List File) : Type 0 where
@@ -57,24 +51,26 @@ pub record AreWithinLimits (files : List File) : Type 0 where
   pub shallow : depth_of files ≤ most_names
   pub short : greatest_lines files ≤ most_lines
 
--- the path of the host's settings
-abbrev pub host_path : Path
-host_path = codes "host.dts" ∷ []
+-- of the limits that the files pass by themselves, this is the first one, with the number that passes it
+abbrev pub PassesOwnLimit : List File → LimitName → ℕ → Type 0
+PassesOwnLimit files limit.Files number = (number ≡ length files) × (most_files < number)
+PassesOwnLimit files limit.Depth number = (length files ≤ most_files) × (number ≡ depth_of files) × (most_names < number)
+PassesOwnLimit files limit.Lines number =
+    (length files ≤ most_files) × (depth_of files ≤ most_names) × (number ≡ greatest_lines files) × (most_lines < number)
+PassesOwnLimit files _ number = ⊥
 
--- a file stands at the path
-abbrev pub IsFile : FileMap → Path → Type 0
-IsFile m path = (bytes : List ℕ) × (read_file m path ≡ Ok bytes)
-
--- the files have host settings, which are not built
-abbrev pub HasHost : List File → Type 0
-HasHost files = IsFile (load_files files) host_path
+-- the same, and where they pass none, of those that their host tree passes
+pub data PassesLimit (files : List File) (name : LimitName) (number : ℕ) : Type 0 where
+  own : PassesOwnLimit files name number → PassesLimit files name number
+  host : AreWithinLimits files → Says (host_text files) (Err (board.Limit name number)) → PassesLimit files name number
 
 -- the bytes are few enough, and the bundle of these files
 pub record IsInput (bytes : List ℕ) (files : List File) : Type 0 where
   pub size : length bytes ≤ most_bytes
   pub bundle : IsBundle bytes files
 
--- the files can be run
-pub record AreRunnable (files : List File) : Type 0 where
+-- the files are within the limits, and have a board
+pub record AreGood (files : List File) : Type 0 where
   pub within : AreWithinLimits files
-  pub hostless : HasHost files → ⊥
+  pub board : Board
+  pub says : HaveBoard files board

@@ -1,9 +1,11 @@
 -- What a run of a bundle begins with.
-use Rattle.std.specs.Prelude.{◌≡◌, ℕ, List, [], ◌∷◌, Result, Ok, Err, codes}
+use Rattle.std.specs.Prelude.{◌≡◌, ℕ, List, [], ◌∷◌, Result, Ok, Err, Option, Some, None, codes}
 use Rattle.hv_bundle.specs.declared.file.File.{File}
 use Rattle.hv_bundle.specs.Bundle.{IsBundle}
-use Rattle.hv_files.specs.FileMap.{FileMap, read_file}
+use Rattle.hv_files.specs.FileMap.{Path, FileMap, read_file}
 use Rattle.hv_files.specs.declared.refusal.FileRefusal.{FileRefusal}
+use Rattle.hv_host.specs.Boards.{Says}
+use Rattle.hv_host.specs.declared.board.Board.{Board}
 use Rattle.hv_model.specs.declared.opening.Opening.{Opening}
 use Rattle.hv_model.specs.Files.{load_files}
 
@@ -26,11 +28,38 @@ scripts_of m =
     ∷ script_of m (codes "term3.xscript")
     ∷ []
 
--- a run of these files begins with 2 harts that make no turns, the files, and the scripts among them
-abbrev pub opening_of : List File → Opening
-opening_of files = record { harts = 2; turns = 0; files = files; scripts = scripts_of (load_files files) }
+-- a file's bytes, where it is there
+abbrev pub found : Result (List ℕ) FileRefusal → Option (List ℕ)
+found (Ok bytes) = Some bytes
+found (Err why) = None
+
+-- the path of the host tree, and its text, where it is there
+abbrev pub host_path : Path
+host_path = codes "host.dts" ∷ []
+
+abbrev pub host_text : List File → Option (List ℕ)
+host_text files = found (read_file (load_files files) host_path)
+
+-- the host tree of these files, or that there is none, says this board
+abbrev pub HaveBoard : List File → Board → Type 0
+HaveBoard files board = Says (host_text files) (Ok board)
+
+-- an opening has the harts, the areas and the plans of a board
+pub record IsOnBoard (o : Opening) (board : Board) : Type 0 where
+  pub harts : o.harts ≡ board.host.harts
+  pub areas : o.areas ≡ board.host.areas.items
+  pub plans : o.plans ≡ board.plans.items
+
+-- a run of these files begins with no turns, the files, the scripts among them, and what the board has
+pub record IsOpeningOf (files : List File) (o : Opening) : Type 0 where
+  pub files_are : o.files ≡ files
+  pub turns : o.turns ≡ 0
+  pub scripts : o.scripts ≡ scripts_of (load_files files)
+  pub board : Board
+  pub says : HaveBoard files board
+  pub on_board : IsOnBoard o board
 
 -- the bytes are a bundle, and this is what a run of its files begins with
 pub record IsOpening (bytes : List ℕ) (o : Opening) : Type 0 where
   pub bundle : IsBundle bytes o.files
-  pub start : o ≡ opening_of o.files
+  pub start : IsOpeningOf o.files o

@@ -46,6 +46,12 @@ pub record AppendsReportFront (old new : Option (List ℕ)) (run : KeptRun) : Ty
   pub is_report : IsReportOf run report
   pub appended : AppendsFront old new report
 
+-- whether an answer comes after a whole output or a front of it
+abbrev pub has_output : Status → Bool
+has_output status.Done = true
+has_output status.WriteFault = true
+has_output _ = false
+
 -- whether an answer comes after a run
 abbrev pub has_run : Status → Bool
 has_run status.Done = true

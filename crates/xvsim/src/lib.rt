@@ -1,12 +1,13 @@
-//! A run, from a bundle to a report.
+//! The commands: a run of a bundle with its report, and a check of one.
 //!
 //! Terms: the opening is what a run begins with; the history is its events by rising logical time
 //! stamp; the report is the text of what the terminals showed and of the history.
 #![tactic(auto)]
 
+mod check;
+mod input;
 mod kept;
 mod limits;
-mod opening;
 mod refusal;
 mod report;
 mod run;
@@ -16,7 +17,7 @@ mod words;
 
 pub use kept::{Final, Kept, KeptRun};
 pub use status::Status;
-pub use top::xvsim;
+pub use top::{check_bundle, xvsim};
 
 #[cfg(test)]
 mod tests;

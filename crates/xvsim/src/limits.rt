@@ -7,7 +7,7 @@ ghost use Rattle.xvsim.specs.Opening.{scripts_of};
 ghost use Rattle.xvsim.specs.Limits.{most_files, most_names, most_lines, depth_of, greatest_lines};
 ghost use Rattle.xvsim.specs.Refusal.{IsDueForFiles};
 
-use crate::refusal::FilesRefusal;
+use crate::refusal::InputRefusal;
 use hv_bundle::File;
 use hv_text::{Bytes, LimitName};
 use hv_words::count_lines;
@@ -30,17 +30,17 @@ fn depth(files: &[File]) -> usize
 }
 
 /// Refuses too many files, and too many names in a path.
-pub fn check_sizes(files: &[File]) -> Result<(), FilesRefusal>
+pub fn check_sizes(files: &[File]) -> Result<(), InputRefusal>
     ensures few { OnOk result (length files.now ≤ most_files) }
     ensures shallow { OnOk result (depth_of files.now ≤ most_names) }
     ensures refused { IfErr result (IsDueForFiles files.now) }
 {
     if files.len() > MOST_FILES {
-        return Err(FilesRefusal::Limit(LimitName::Files, files.len() as u64));
+        return Err(InputRefusal::Limit(LimitName::Files, files.len() as u64));
     }
     let depth = depth(files);
     if depth > MOST_NAMES {
-        return Err(FilesRefusal::Limit(LimitName::Depth, depth as u64));
+        return Err(InputRefusal::Limit(LimitName::Depth, depth as u64));
     }
     Ok(())
 }
@@ -75,7 +75,7 @@ fn most_of(scripts: &[Bytes]) -> usize
 }
 
 /// Refuses too many lines of a terminal, where the sizes are within their limits.
-pub fn check_lines(files: &[File], scripts: &[Bytes]) -> Result<(), FilesRefusal>
+pub fn check_lines(files: &[File], scripts: &[Bytes]) -> Result<(), InputRefusal>
     requires few { length files.now ≤ most_files }
     requires shallow { depth_of files.now ≤ most_names }
     requires scripts { scripts.now ≡ scripts_of (load_files files.now) }
@@ -84,7 +84,7 @@ pub fn check_lines(files: &[File], scripts: &[Bytes]) -> Result<(), FilesRefusal
 {
     let most = most_of(scripts);
     if most > MOST_LINES {
-        return Err(FilesRefusal::Limit(LimitName::Lines, most as u64));
+        return Err(InputRefusal::Limit(LimitName::Lines, most as u64));
     }
     Ok(())
 }

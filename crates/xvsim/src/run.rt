@@ -1,17 +1,29 @@
-//! A run from its start.
-ghost use Rattle.std.specs.Prelude.{IfOk};
-ghost use Rattle.hv_bundle.specs.declared.file.File.{File};
-ghost use Rattle.std.specs.Prelude.{List};
-ghost use Rattle.xvsim.specs.Opening.{opening_of};
-ghost use Rattle.xvsim.specs.Made.{IsStartOf, IsMadeFrom};
+//! A run of a bundle.
+ghost use Rattle.std.specs.Prelude.{◌≡◌, IfOk};
+ghost use Rattle.hv_model.specs.declared.opening.Opening.{Opening};
+ghost use Rattle.hv_model.specs.Files.{load_files};
+ghost use Rattle.xvsim.specs.Opening.{IsOpeningOf};
+ghost use Rattle.xvsim.specs.Input.{IsWhole};
+ghost use Rattle.xvsim.specs.Made.{IsMadeFrom};
 
+use crate::input::Input;
 use crate::kept::{Final, KeptRun};
-use crate::opening::Start;
 use crate::report::report_of_run;
-use hv_bundle::File;
+use hv_dtree::Items;
+use hv_files::FileTree;
+use hv_host::Board;
+use hv_model::Opening;
+use hv_plan::Host;
 use hv_rounds::{Outcome, run};
-use hv_text::Bytes;
+use hv_text::{Bytes, Strings};
 use std::alloc::{AllocError, Global};
+
+/// What a run begins with, and the tree of its files.
+#[derive(Drop)]
+pub struct Start {
+    pub opening: Opening,
+    pub files: FileTree,
+}
 
 /// What came of a run: it was finished, and this is its report, or it was stopped at this stamp.
 #[derive(Drop)]
@@ -20,12 +32,46 @@ pub enum Made {
     Stopped(KeptRun, u64),
 }
 
-/// Runs the scripts of an opening.
-pub fn make_run(alloc: Global, start: Start) -> Result<Made, AllocError>
-    requires { (files : List File) × IsStartOf files start }
-    ensures { IfOk result (IsMadeFrom start.opening) }
+/// What a run of an input begins with.
+fn start_of(input: Input) -> Start
+    requires { IsWhole input }
+    ensures opening { IsOpeningOf input.files.items result.opening }
+    ensures loaded { result.files ≡ load_files result.opening.files }
 {
-    let Start { opening, files } = start;
+    let Input {
+        size: _,
+        files,
+        tree,
+        scripts,
+        board,
+    } = input;
+    let Board { host, plans } = board;
+    let Host {
+        harts,
+        turns: _,
+        areas,
+        guests: _,
+    } = host;
+    Start {
+        opening: Opening {
+            harts,
+            turns: 0,
+            files: Items::from_vec(files),
+            areas: Items::from_vec(areas),
+            plans: Items::from_vec(plans),
+            scripts: Strings::from_vec(scripts),
+        },
+        files: tree,
+    }
+}
+
+/// Runs the scripts of an input.
+pub fn make_run(alloc: Global, input: Input) -> Result<Made, AllocError>
+    requires { IsWhole input }
+    ensures { IfOk result (λ made. (o : Opening)
+        × IsOpeningOf input.files.items o × IsMadeFrom o made) }
+{
+    let Start { opening, files } = start_of(input);
     let Outcome {
         history,
         files,

@@ -157,10 +157,57 @@ fn answers_limits_one_past_each(rt: HostRuntime) -> Result<(), Fail> {
     Ok(())
 }
 
+const HOST: &[u8] =
+    b"/dts-v1/; / { vmm { harts = <3>; turns = <7>; }; areas { ring { size = <16>; }; }; guests { g { }; }; };";
+
 #[test]
-fn builds_no_host_yet(rt: HostRuntime) -> Result<(), Fail> {
-    let host = one_file(rt.alloc(), b"/host.dts", b"")?;
-    let refused = call(rt.alloc(), &WORDS, host.as_slice(), 100, &[], &[])?;
-    assert_eq!(rt; refused.status, Status::NotBuilt);
+fn takes_the_harts_from_the_host_tree(rt: HostRuntime) -> Result<(), Fail> {
+    let host = one_file(rt.alloc(), b"/host.dts", HOST)?;
+    let done = call(rt.alloc(), &WORDS, host.as_slice(), 100, &[], &[])?;
+    assert_eq!(rt; done.status, Status::Done);
+    assert_eq!(rt;
+        done.written.as_slice(),
+        b"xvsim 1\nharts 3 turns 0 order seq\nstates\nvcpu 0 Reset\nhistory\nend 0\n".as_slice()
+    );
+    Ok(())
+}
+
+#[test]
+fn checks_a_bundle(rt: HostRuntime) -> Result<(), Fail> {
+    let host = one_file(rt.alloc(), b"/host.dts", HOST)?;
+    let done = call(rt.alloc(), &["check"], host.as_slice(), 100, &[], &[])?;
+    assert_eq!(rt; done.status, Status::Done);
+    assert!(rt; !done.is_kept);
+    assert_eq!(rt;
+        done.written.as_slice(),
+        b"bundle 1 133\nfile /host.dts 104\nhost harts 3 turns 7 areas 1\nguest g bad /guests/g Missing\n".as_slice()
+    );
+    Ok(())
+}
+
+const REFUSED_HOSTS: [(&[u8], u64); 2] = [(b"", 0), (b"/dts-v1/; / { a { }; b = <1>; };", 23)];
+
+#[test]
+fn says_where_a_host_tree_is_bad(rt: HostRuntime) -> Result<(), Fail> {
+    for (text, offset) in REFUSED_HOSTS {
+        let host = one_file(rt.alloc(), b"/host.dts", text)?;
+        let refused = call(rt.alloc(), &WORDS, host.as_slice(), 100, &[], &[])?;
+        assert_eq!(rt; refused.status, Status::BadTree { offset });
+        assert!(rt; refused.written.is_empty());
+        assert!(rt; !refused.is_kept);
+    }
+    Ok(())
+}
+
+#[test]
+fn says_which_setting_is_bad(rt: HostRuntime) -> Result<(), Fail> {
+    let tree = b"/dts-v1/; / { vmm { harts = <9>; }; };".as_slice();
+    let host = one_file(rt.alloc(), b"/host.dts", tree)?;
+    let refused = call(rt.alloc(), &["check"], host.as_slice(), 100, &[], &[])?;
+    let Status::BadHost { path } = refused.status else {
+        assert!(rt; false);
+        return Ok(());
+    };
+    assert_eq!(rt; path.as_slice(), b"/vmm".as_slice());
     Ok(())
 }

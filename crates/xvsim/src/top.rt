@@ -1,79 +1,45 @@
-//! The top call.
-ghost use Rattle.std.specs.Prelude.{◌≡◌, ◌≢◌, ◌∷◌, ◌++◌, [], List, ℕ, map, string_bytes, IfOk, IfSome, IsSomeAnd, IsTrue};
+//! The calls.
+ghost use Rattle.std.specs.Prelude.{◌≡◌, ◌≢◌, List, ℕ, map, string_bytes, IfSome, IsSomeAnd, IsTrue};
 ghost use Rattle.hv_base.specs.Count.{Rose};
-ghost use Rattle.xvsim.specs.Words.{AreRunWords};
-ghost use Rattle.xvsim.specs.Run.{IsRunOf, KeepsRun, AppendsReport, AppendsReportFront, has_run};
-ghost use Rattle.xvsim.specs.Due.{IsDue};
+ghost use Rattle.xvsim.specs.Words.{AreRunWords, AreCheckWords, AreWords};
+ghost use Rattle.xvsim.specs.Run.{IsRunOf, KeepsRun, AppendsReport, AppendsReportFront, has_output, has_run};
+ghost use Rattle.xvsim.specs.Check.{IsAllRead, AppendsCheck, AppendsCheckFront};
+ghost use Rattle.xvsim.specs.Due.{IsDueStatus, IsDue};
 
+use crate::check::check_text;
+use crate::input::read_input;
 use crate::kept::Kept;
-use crate::opening::start_of;
-use crate::refusal::FilesRefusal;
 use crate::run::{Made, make_run};
 use crate::status::Status;
-use crate::words::are_run_words;
-use hv_base::{ReadEnd, Sink, Source, read_all, write_all};
-use hv_bundle::{BundleRefusal, read_bundle};
-use hv_text::LimitName;
+use crate::words::{Command, read_words};
+use hv_base::{Sink, Source, write_all};
 use std::alloc::Global;
 
-const MOST_BYTES: usize = 67_108_864;
-
-/// Carries out the command that the words name.
-pub fn xvsim<S: Source, K: Sink>(
+/// Runs a bundle, and writes the report.
+fn run_bundle<S: Source, K: Sink>(
     alloc: Global,
-    words: &[String],
     source: &mut S,
     sink: &mut K,
     kept: &mut Kept,
 ) -> Status
-    // After a run the input was read to its end, and the run that is kept begins with what it gave.
     ensures input { IsTrue (has_run result) → IsSomeAnd kept.new.run
         (IsRunOf (S.left source.old) (S.left source.new) (S.ended source.new)) }
-
-    // A run that is done is finished, in rounds; one that was stopped is kept too, and else nothing changes.
     ensures keeps { KeepsRun result kept.old kept.new }
-
-    // Of a run that is done exactly the report was written, and after a fault of the sink a front of it.
     ensures report { result ≡ Status.Done → IsSomeAnd kept.new.run
         (AppendsReport (K.held sink.old) (K.held sink.new)) }
     ensures cut_short { result ≡ Status.WriteFault → IsSomeAnd kept.new.run
         (AppendsReportFront (K.held sink.old) (K.held sink.new)) }
     ensures sink_stays { result ≢ Status.Done → result ≢ Status.WriteFault → sink.new ≡ sink.old }
-
-    // When each answer comes, where the source tells its bytes.
-    ensures due { IfSome (S.left source.old) (λ bytes. IsDue (map string_bytes words.now) bytes result) }
-    ensures usage { result ≡ Status.Usage → AreRunWords (map string_bytes words.now) → ⊥ }
-    ensures words { result ≢ Status.Usage → AreRunWords (map string_bytes words.now) }
-    ensures unread { result ≡ Status.Usage → source.new ≡ source.old }
-
-    // A fault is answered only where it was counted in this call.
+    ensures due { IfSome (S.left source.old) (λ bytes. IsDueStatus bytes result) }
+    ensures words { result ≢ Status.Usage }
     ensures read_fault { result ≡ Status.ReadFault → Rose (S.faults source.old) (S.faults source.new) }
     ensures write_fault { result ≡ Status.WriteFault → Rose (K.faults sink.old) (K.faults sink.new) }
 {
-    if !are_run_words(words) {
-        return Status::Usage;
-    }
-    let bytes = match read_all(alloc, source, MOST_BYTES) {
-        Ok(bytes) => bytes,
-        Err(ReadEnd::Fault) => return Status::ReadFault,
-        Err(ReadEnd::TooMany) => return Status::Limit {
-            name: LimitName::Bytes,
-            number: 67_108_865,
-        },
-        Err(ReadEnd::Memory(_)) => return Status::OutOfMemory,
+    let input = match read_input(alloc, source) {
+        Ok(input) => input,
+        Err(refusal) => return refusal.status(),
     };
-    let files = match read_bundle(alloc, &bytes) {
-        Ok(files) => files,
-        Err(BundleRefusal::BadBundle(offset)) => return Status::BadBundle { offset },
-        Err(BundleRefusal::Memory(_)) => return Status::OutOfMemory,
-    };
-    let start = match start_of(alloc, files) {
-        Ok(start) => start,
-        Err(FilesRefusal::Limit(name, number)) => return Status::Limit { name, number },
-        Err(FilesRefusal::NotBuilt) => return Status::NotBuilt,
-        Err(FilesRefusal::Memory(_)) => return Status::OutOfMemory,
-    };
-    match make_run(alloc, start) {
+    match make_run(alloc, input) {
         Ok(Made::Finished(run, report)) => {
             kept.run = Some(run);
             match write_all(sink, report.as_slice()) {
@@ -86,5 +52,89 @@ pub fn xvsim<S: Source, K: Sink>(
             Status::StampsSpent { stamp }
         }
         Err(_) => Status::OutOfMemory,
+    }
+}
+
+/// Checks a bundle, and writes what it has.
+pub fn check_bundle<S: Source, K: Sink>(alloc: Global, source: &mut S, sink: &mut K) -> Status
+    // The input was read to its end.
+    ensures input { IsTrue (has_output result)
+        → IsAllRead (S.left source.new) (S.ended source.new) }
+
+    // Of a check that is done exactly its text was written, and after a fault of the sink a front.
+    ensures check { result ≡ Status.Done → IfSome (S.left source.old)
+        (AppendsCheck (K.held sink.old) (K.held sink.new)) }
+    ensures cut_short { result ≡ Status.WriteFault → IfSome (S.left source.old)
+        (AppendsCheckFront (K.held sink.old) (K.held sink.new)) }
+    ensures sink_stays { result ≢ Status.Done → result ≢ Status.WriteFault → sink.new ≡ sink.old }
+
+    // When each answer comes, where the source tells its bytes.
+    ensures due { IfSome (S.left source.old) (λ bytes. IsDueStatus bytes result) }
+    ensures words { result ≢ Status.Usage }
+    ensures never_stopped { (stamp : ℕ) → result ≢ Status.StampsSpent stamp }
+
+    // A fault is answered only where it was counted in this call.
+    ensures read_fault { result ≡ Status.ReadFault → Rose (S.faults source.old) (S.faults source.new) }
+    ensures write_fault { result ≡ Status.WriteFault → Rose (K.faults sink.old) (K.faults sink.new) }
+{
+    let input = match read_input(alloc, source) {
+        Ok(input) => input,
+        Err(refusal) => return refusal.status(),
+    };
+    match check_text(alloc, &input) {
+        Ok(text) => match write_all(sink, text.as_slice()) {
+            Ok(()) => Status::Done,
+            Err(_) => Status::WriteFault,
+        },
+        Err(_) => Status::OutOfMemory,
+    }
+}
+
+/// Carries out the command that the words name.
+pub fn xvsim<S: Source, K: Sink>(
+    alloc: Global,
+    words: &[String],
+    source: &mut S,
+    sink: &mut K,
+    kept: &mut Kept,
+) -> Status
+    // After a run the input was read to its end, and the run that is kept begins with what it gave.
+    ensures input { AreRunWords (map string_bytes words.now) → IsTrue (has_run result)
+        → IsSomeAnd kept.new.run
+        (IsRunOf (S.left source.old) (S.left source.new) (S.ended source.new)) }
+
+    // A run that is done is finished, in rounds; one that was stopped is kept too, and else nothing changes.
+    ensures keeps { AreRunWords (map string_bytes words.now) → KeepsRun result kept.old kept.new }
+    ensures kept_stays { (AreRunWords (map string_bytes words.now) → ⊥) → kept.new ≡ kept.old }
+
+    // Of a run that is done exactly the report was written, and after a fault of the sink a front of it.
+    ensures report { AreRunWords (map string_bytes words.now) → result ≡ Status.Done
+        → IsSomeAnd kept.new.run (AppendsReport (K.held sink.old) (K.held sink.new)) }
+    ensures cut_short { AreRunWords (map string_bytes words.now) → result ≡ Status.WriteFault
+        → IsSomeAnd kept.new.run (AppendsReportFront (K.held sink.old) (K.held sink.new)) }
+
+    // The same of a check and its text.
+    ensures check_input { AreCheckWords (map string_bytes words.now) → IsTrue (has_output result)
+        → IsAllRead (S.left source.new) (S.ended source.new) }
+    ensures check { AreCheckWords (map string_bytes words.now) → result ≡ Status.Done
+        → IfSome (S.left source.old) (AppendsCheck (K.held sink.old) (K.held sink.new)) }
+    ensures check_cut { AreCheckWords (map string_bytes words.now) → result ≡ Status.WriteFault
+        → IfSome (S.left source.old) (AppendsCheckFront (K.held sink.old) (K.held sink.new)) }
+    ensures sink_stays { result ≢ Status.Done → result ≢ Status.WriteFault → sink.new ≡ sink.old }
+
+    // When each answer comes, where the source tells its bytes.
+    ensures due { IfSome (S.left source.old) (λ bytes. IsDue (map string_bytes words.now) bytes result) }
+    ensures usage { result ≡ Status.Usage → AreWords (map string_bytes words.now) → ⊥ }
+    ensures words { result ≢ Status.Usage → AreWords (map string_bytes words.now) }
+    ensures unread { result ≡ Status.Usage → source.new ≡ source.old }
+
+    // A fault is answered only where it was counted in this call.
+    ensures read_fault { result ≡ Status.ReadFault → Rose (S.faults source.old) (S.faults source.new) }
+    ensures write_fault { result ≡ Status.WriteFault → Rose (K.faults sink.old) (K.faults sink.new) }
+{
+    match read_words(words) {
+        Some(Command::Run) => run_bundle(alloc, source, sink, kept),
+        Some(Command::Check) => check_bundle(alloc, source, sink),
+        None => Status::Usage,
     }
 }

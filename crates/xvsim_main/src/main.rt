@@ -7,6 +7,7 @@ use std::env::{self, Env};
 use std::io;
 use std::io::Write;
 use std::process::ExitCode;
+use std::str;
 use xvsim::{Kept, Status, xvsim};
 
 /// The words behind the program's name. Words that are no text are wrong words.
@@ -39,36 +40,40 @@ fn status_of(rt: &(impl Env + AllocGlobal + Input + Print)) -> Status {
     xvsim(rt.alloc(), &words, &mut source, &mut sink, &mut kept)
 }
 
-fn code_of(status: Status) -> u8 {
+fn code_of(status: &Status) -> u8 {
     match status {
         Status::Done => 0,
         Status::Usage => 2,
         Status::ReadFault => 3,
         Status::WriteFault => 4,
         Status::BadBundle { .. } => 5,
+        Status::BadTree { .. } => 6,
         Status::Limit { .. } => 7,
         Status::StampsSpent { .. } => 8,
+        Status::BadHost { .. } => 9,
         Status::OutOfMemory => 12,
-        Status::NotBuilt => 13,
     }
 }
 
-fn tell(rt: &impl Eprint, status: Status) -> io::Result<()> {
+fn tell(rt: &impl Eprint, status: &Status) -> io::Result<()> {
     match status {
         Status::Done => Ok(()),
         Status::Usage => eprintln!(rt; "xvsim: usage"),
         Status::ReadFault => eprintln!(rt; "xvsim: read fault"),
         Status::WriteFault => eprintln!(rt; "xvsim: write fault"),
         Status::BadBundle { offset } => eprintln!(rt; "xvsim: bad bundle at {offset}"),
+        Status::BadTree { offset } => eprintln!(rt; "xvsim: bad tree at {offset}"),
         Status::Limit { name, number } => { eprintln!(rt; "xvsim: limit {} {number}", name.name()) }
         Status::StampsSpent { .. } => eprintln!(rt; "xvsim: stamps spent"),
+        Status::BadHost { path } => {
+            eprintln!(rt; "xvsim: bad host {}", str::from_utf8(path.as_slice()).unwrap_or(""))
+        }
         Status::OutOfMemory => eprintln!(rt; "xvsim: out of memory"),
-        Status::NotBuilt => eprintln!(rt; "xvsim: not built"),
     }
 }
 
 fn main(rt: HostRuntime) -> ExitCode {
     let status = status_of(&rt);
-    let _ = tell(&rt, status);
-    ExitCode::from(code_of(status))
+    let _ = tell(&rt, &status);
+    ExitCode::from(code_of(&status))
 }

@@ -1,5 +1,5 @@
 use Rattle.std.proofs.Common.{refl}
-use Rattle.xvsim.proofs.opening.scripts_in.Goals as goal
+use Rattle.xvsim.proofs.input.scripts_in.Goals as goal
 
 pub returns : goal.returns
 returns c =

@@ -1,0 +1,7 @@
+use Rattle.std.proofs.Common.{◌≡◌, ◌++◌, take}
+use Rattle.std.specs.List.{flat_map}
+use Rattle.xvsim.specs.Check.{file_line}
+use Rattle.xvsim.proofs.check.push_files.Given as goal
+
+abbrev pub invariant-loop-file : goal.invariant-loop-file
+invariant-loop-file l = l.to ≡ l.fn.to ++ flat_map file_line (take l.file-index l.files)
