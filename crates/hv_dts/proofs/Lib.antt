@@ -1,3 +1,5 @@
 pub mod Printing
 pub mod Reading
 pub mod Lexing
+pub mod Gathering
+pub mod Lifting

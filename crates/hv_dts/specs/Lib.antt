@@ -9,3 +9,4 @@ pub mod Bytes
 pub mod Rules
 pub mod Resolved
 pub mod Reading
+pub mod Gathering

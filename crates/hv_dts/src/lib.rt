@@ -2,6 +2,7 @@
 #![tactic(auto)]
 
 mod contents;
+mod gathered;
 mod grammar;
 mod lexed;
 mod print;
