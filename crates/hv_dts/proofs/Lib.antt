@@ -3,3 +3,5 @@ pub mod Reading
 pub mod Lexing
 pub mod Gathering
 pub mod Lifting
+pub mod Found
+pub mod Twice

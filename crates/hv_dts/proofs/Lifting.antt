@@ -255,7 +255,7 @@ fit_end [] fit = refl
 fit_end (p ∷ pieces) fit = absurd fit
 
 -- what is a source by its symbols is written with something
-pub written_of : (source : List ℕ) (tokens : List Token) → IsSourceText source tokens → (syntax : SourceSyntax) × IsWritten source syntax
+abbrev pub written_of : (source : List ℕ) (tokens : List Token) → IsSourceText source tokens → (syntax : SourceSyntax) × IsWritten source syntax
 written_of source tokens is =
     let end = on.NodeClose ∷ on.Semicolon ∷ [] in
     let symbols = is.source in

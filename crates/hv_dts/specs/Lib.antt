@@ -10,3 +10,4 @@ pub mod Rules
 pub mod Resolved
 pub mod Reading
 pub mod Gathering
+pub mod Sets

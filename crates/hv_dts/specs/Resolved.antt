@@ -1,7 +1,7 @@
 -- The tree that the contents of a source stand for.
 use Rattle.std.specs.Prelude.{◌≡◌, ℕ, ◌+◌, ◌≤◌, ◌<◌, List, [], ◌∷◌, ◌++◌, map, filter, Bool, true, false, ◌&&◌, not, ◌==◌, nat_eq, is_some, if◌then◌else◌, Option, Some, None, codes}
 use Rattle.std.specs.Option.{option_map, option_and_then, option_or, unwrap_or}
-use Rattle.std.specs.List.{list_any, find}
+use Rattle.std.specs.List.{list_any, find, flat_map}
 use Rattle.std.specs.Map.{lookup}
 use Rattle.std.specs.Cmp.Lexicographic.{pointwise}
 use Rattle.hv_dtree.specs.declared.node.Prop.{Prop}
@@ -41,11 +41,13 @@ cell_lists_references (value.Cells cells ∷ values) = cells_references cells ++
 cell_lists_references (other ∷ values) = cell_lists_references values
 
 -- the labels that lists of cells refer to
+abbrev pub cell_references : Entry → List Named
+cell_references (entry.Property labels name values) = cell_lists_references values
+cell_references (entry.Open labels name) = []
+cell_references entry.Close = []
+
 abbrev pub asked_labels : List Entry → List (List ℕ)
-asked_labels [] = []
-asked_labels (entry.Property labels name values ∷ entries) = map (λ label. label.name) (cell_lists_references values) ++ asked_labels entries
-asked_labels (entry.Open labels name ∷ entries) = asked_labels entries
-asked_labels (entry.Close ∷ entries) = asked_labels entries
+asked_labels entries = map (λ label. label.name) (flat_map cell_references entries)
 
 -- the numbers of the phandles of a source
 abbrev pub used_numbers : List Entry → List ℕ

@@ -1,7 +1,7 @@
 -- The rules that the contents of a source keep, with the places where they are broken.
 use Rattle.std.specs.Prelude.{ℕ, List, [], ◌∷◌, ◌++◌, map, min, Bool, true, false, not, ◌==◌, nat_eq, if◌then◌else◌, Option, Some, None}
 use Rattle.std.specs.Option.{option_map, option_or}
-use Rattle.std.specs.List.{list_any}
+use Rattle.std.specs.List.{list_any, flat_map}
 use Rattle.std.specs.Cmp.Lexicographic.{pointwise}
 use Rattle.hv_dts.specs.Contents.{PropSyntax, NodesSyntax, none, node, SourceSyntax, entries_of}
 use Rattle.hv_dts.specs.Bytes.{values_references, is_phandle_name, phandle_number}
@@ -38,11 +38,13 @@ nodes_repeated earlier (node labels name props children rest) =
     place_if (has_name earlier name.name) name.place ++ (props_repeated [] props ++ (nodes_repeated [] children ++ nodes_repeated (name.name ∷ earlier) rest))
 
 -- all labels in order
+abbrev pub entry_labels : Entry → List Named
+entry_labels (entry.Property labels name values) = labels
+entry_labels (entry.Open labels name) = labels
+entry_labels entry.Close = []
+
 abbrev pub labels_of : List Entry → List Named
-labels_of [] = []
-labels_of (entry.Property labels name values ∷ entries) = labels ++ labels_of entries
-labels_of (entry.Open labels name ∷ entries) = labels ++ labels_of entries
-labels_of (entry.Close ∷ entries) = labels_of entries
+labels_of entries = flat_map entry_labels entries
 
 -- the places of the labels of the file, and of the names of properties and children of a node, that an earlier one has
 abbrev pub twice_named : SourceSyntax → List ℕ
@@ -70,18 +72,22 @@ bad_phandles earlier (entry.Open labels name ∷ entries) = bad_phandles earlier
 bad_phandles earlier (entry.Close ∷ entries) = bad_phandles earlier entries
 
 -- the labels of nodes
-abbrev pub node_labels : List Entry → List (List ℕ)
-node_labels [] = []
-node_labels (entry.Property labels name values ∷ entries) = node_labels entries
-node_labels (entry.Open labels name ∷ entries) = map (λ label. label.name) labels ++ node_labels entries
-node_labels (entry.Close ∷ entries) = node_labels entries
+abbrev pub node_labels : Entry → List Named
+node_labels (entry.Property labels name values) = []
+node_labels (entry.Open labels name) = labels
+node_labels entry.Close = []
+
+abbrev pub all_node_labels : List Entry → List (List ℕ)
+all_node_labels entries = map (λ label. label.name) (flat_map node_labels entries)
 
 -- all references in order
+abbrev pub entry_references : Entry → List Named
+entry_references (entry.Property labels name values) = values_references values
+entry_references (entry.Open labels name) = []
+entry_references entry.Close = []
+
 abbrev pub references_of : List Entry → List Named
-references_of [] = []
-references_of (entry.Property labels name values ∷ entries) = values_references values ++ references_of entries
-references_of (entry.Open labels name ∷ entries) = references_of entries
-references_of (entry.Close ∷ entries) = references_of entries
+references_of entries = flat_map entry_references entries
 
 -- the places of references to labels that are none of these
 abbrev pub unlabelled : List (List ℕ) → List Named → List ℕ
@@ -105,4 +111,4 @@ broken_rule source =
     let entries = entries_of source in
     option_or (option_map (λ place. refusal.TwiceNamed place) (least (twice_named source)))
     (option_or (option_map (λ place. refusal.BadPhandle place) (least (bad_phandles [] entries)))
-    (option_map (λ place. refusal.NoLabel place) (least (unlabelled (node_labels entries) (references_of entries)))))
+    (option_map (λ place. refusal.NoLabel place) (least (unlabelled (all_node_labels entries) (references_of entries)))))

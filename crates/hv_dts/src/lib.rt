@@ -2,9 +2,11 @@
 #![tactic(auto)]
 
 mod contents;
+mod entries;
 mod gathered;
 mod grammar;
 mod lexed;
+mod names;
 mod print;
 mod print_line;
 mod refusal;
