@@ -5,3 +5,4 @@ pub mod Gathering
 pub mod Lifting
 pub mod Found
 pub mod Twice
+pub mod Nesting

@@ -34,7 +34,7 @@ was_there added true e = ap not e
 was_there added false e = ap not e
 
 -- the least place of several
-lesser_none : (o : Option ℕ) → lesser o None ≡ o
+pub lesser_none : (o : Option ℕ) → lesser o None ≡ o
 lesser_none None = refl
 lesser_none (Some n) = refl
 

@@ -11,3 +11,5 @@ pub mod Resolved
 pub mod Reading
 pub mod Gathering
 pub mod Sets
+pub mod Siblings
+pub mod Maps

@@ -61,15 +61,22 @@ abbrev pub with_number : List ℕ → Option ℕ → List ℕ
 with_number earlier None = earlier
 with_number earlier (Some number) = number ∷ earlier
 
+-- the place of an entry that is a bad phandle
+abbrev pub bad_here : List ℕ → Entry → List ℕ
+bad_here earlier (entry.Property labels name values) = if is_phandle_name name.name then bad_place earlier name.place (phandle_number values) else []
+bad_here earlier (entry.Open labels name) = []
+bad_here earlier entry.Close = []
+
+-- the numbers of phandles behind an entry
+abbrev pub numbers_after : List ℕ → Entry → List ℕ
+numbers_after earlier (entry.Property labels name values) = if is_phandle_name name.name then with_number earlier (phandle_number values) else earlier
+numbers_after earlier (entry.Open labels name) = earlier
+numbers_after earlier entry.Close = earlier
+
 -- the places of phandles that are no numbers or earlier ones
 abbrev pub bad_phandles : List ℕ → List Entry → List ℕ
 bad_phandles earlier [] = []
-bad_phandles earlier (entry.Property labels name values ∷ entries) =
-    if is_phandle_name name.name
-    then bad_place earlier name.place (phandle_number values) ++ bad_phandles (with_number earlier (phandle_number values)) entries
-    else bad_phandles earlier entries
-bad_phandles earlier (entry.Open labels name ∷ entries) = bad_phandles earlier entries
-bad_phandles earlier (entry.Close ∷ entries) = bad_phandles earlier entries
+bad_phandles earlier (one ∷ entries) = bad_here earlier one ++ bad_phandles (numbers_after earlier one) entries
 
 -- the labels of nodes
 abbrev pub node_labels : Entry → List Named

@@ -6,6 +6,7 @@ mod entries;
 mod gathered;
 mod grammar;
 mod lexed;
+mod members;
 mod names;
 mod print;
 mod print_line;
@@ -15,6 +16,7 @@ mod symbol;
 mod syntax;
 #[cfg(test)]
 mod tests;
+mod values;
 mod word;
 
 pub use print::print_dts;

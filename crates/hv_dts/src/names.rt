@@ -1,14 +1,12 @@
 //! Names that stand twice.
 ghost use Rattle.std.specs.Prelude.{◌≡◌, ◌∷◌, ◌++◌, [], List, ℕ, IfOk};
-ghost use Rattle.hv_dts.specs.Contents.{SourceSyntax, entries_of};
-ghost use Rattle.hv_dts.specs.Rules.{has_name, lesser, least, place_if, repeated, labels_of, props_repeated, nodes_repeated};
+ghost use Rattle.hv_dts.specs.Rules.{has_name, lesser, least, place_if, repeated, labels_of};
 ghost use Rattle.hv_dts.specs.Sets.{Holds, seen_after};
 
 use crate::contents::{Entry, Named};
 use hv_text::Bytes;
 use std::alloc::{AllocError, Global};
 use std::collections::BTreeSet;
-use std::mem;
 
 /// The lesser of two places.
 pub fn lesser(one: Option<usize>, other: Option<usize>) -> Option<usize>
@@ -33,7 +31,7 @@ pub fn note_name(names: &mut BTreeSet<Bytes>, name: &Bytes) -> Result<bool, Allo
 }
 
 /// Notes a name, and lowers the least place where one stands twice.
-fn note_place(
+pub fn note_place(
     names: &mut BTreeSet<Bytes>,
     best: Option<usize>,
     name: &Named,
@@ -72,36 +70,6 @@ pub fn repeated_label(alloc: Global, entries: &[Entry]) -> Result<Option<usize>,
     let mut best = None;
     for entry in entries {
         best = note_labels(&mut names, best, entry.labels())?;
-    }
-    Ok(best)
-}
-
-/// The least place of a name of a property or a child that stands twice in a node.
-pub fn repeated_member(alloc: Global, entries: &[Entry]) -> Result<Option<usize>, AllocError>
-    ensures { (source : SourceSyntax) → entries.now ≡ entries_of source
-        → IfOk result (λ found. found ≡ least (props_repeated [] source.props ++ nodes_repeated [] source.nodes)) }
-{
-    let mut best = None;
-    let mut props = BTreeSet::new(alloc);
-    let mut children = BTreeSet::new(alloc);
-    // The names of the children of the nodes around, the innermost last.
-    let mut around: Vec<BTreeSet<Bytes>> = Vec::new(alloc);
-    for entry in entries {
-        match entry {
-            Entry::Property(_, name, _) => {
-                best = note_place(&mut props, best, name)?;
-            }
-            Entry::Open(_, name) => {
-                best = note_place(&mut children, best, name)?;
-                around.push(mem::replace(&mut children, BTreeSet::new(alloc)))?;
-                props = BTreeSet::new(alloc);
-            }
-            Entry::Close => {
-                if let Some(outer) = around.pop() {
-                    children = outer;
-                }
-            }
-        }
     }
     Ok(best)
 }
