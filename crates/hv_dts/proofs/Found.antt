@@ -11,4 +11,8 @@ use Rattle.hv_dts.proofs.Lifting.{written_of}
 pub has_entries : (text : List ℕ) (tokens : List Token) (found : List Entry) → IsSourceText text tokens → ((entries : List Entry) → map (piece_of text) tokens ≡ source_pieces entries → found ≡ entries) → HasEntries text found
 has_entries text tokens found is only =
     let it = written_of text tokens is in
-    record { syntax = it.0; written = it.1; is = only (entries_of it.0) it.1.pieces }
+    record {
+      syntax = it.syntax;
+      written = record { tokens = tokens; lexes = is.lexes; pieces = it.pieces; names = it.names };
+      is = only (entries_of it.syntax) it.pieces;
+    }

@@ -6,3 +6,5 @@ pub mod Lifting
 pub mod Found
 pub mod Twice
 pub mod Nesting
+pub mod Labels
+pub mod Numbers

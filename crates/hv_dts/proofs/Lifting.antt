@@ -232,7 +232,9 @@ lift_nodes (more labels either props children rest) tail pieces fit =
       item = c.node ls.item is.0 ps.item below.item others.item;
       rest = others.rest;
       parts = ls.parts ∙ ap (labels_pieces ls.item) (name.parts ∙ (λ i. is.1 i ∷ opened i));
-      good = λ entries well. (is.2, ps.good _ (below.good _ (tt, others.good entries well)));
+      good = λ entries well.
+          let after = entry.Close ∷ nodes_entries others.item entries in
+          (is.2, ps.good (nodes_entries below.item after) (below.good after (tt, others.good entries well)));
       fit = others.fit;
     }
 
@@ -254,8 +256,14 @@ fit_end : (pieces : List Piece) → Fit pieces [] → pieces ≡ []
 fit_end [] fit = refl
 fit_end (p ∷ pieces) fit = absurd fit
 
+-- tokens are those of a syntax
+pub record AreOf (source : List ℕ) (tokens : List Token) : Type 0 where
+  pub syntax : SourceSyntax
+  pub pieces : map (piece_of source) tokens ≡ source_pieces (entries_of syntax)
+  pub names : AllByRecursion IsWellNamed (entries_of syntax)
+
 -- what is a source by its symbols is written with something
-abbrev pub written_of : (source : List ℕ) (tokens : List Token) → IsSourceText source tokens → (syntax : SourceSyntax) × IsWritten source syntax
+pub written_of : (source : List ℕ) (tokens : List Token) → IsSourceText source tokens → AreOf source tokens
 written_of source tokens is =
     let end = on.NodeClose ∷ on.Semicolon ∷ [] in
     let symbols = is.source in
@@ -277,9 +285,8 @@ written_of source tokens is =
     let syntax : SourceSyntax = record { props = props.item; nodes = nodes.item } in
     let entries = sym (props_are props.item (nodes_entries nodes.item []) (c.mark on.NodeClose ∷ c.mark on.Semicolon ∷ []) ∙ ap (props_pieces props.item) (nodes_are nodes.item [] (c.mark on.NodeClose ∷ c.mark on.Semicolon ∷ []))) in
     let head = version.parts ∙ (λ i. version.fits i ∷ (semicolon.parts ∙ (λ j. semicolon.fits j ∷ (root.parts ∙ (λ k. root.fits k ∷ inner k)) j)) i) in
-    (syntax, record {
-      tokens = tokens;
-      lexes = is.lexes;
+    record {
+      syntax = syntax;
       pieces = head ∙ ap (λ (r : List Piece). c.mark on.Version ∷ c.mark on.Semicolon ∷ c.mark on.Root ∷ c.mark on.NodeOpen ∷ r) entries;
-      names = props.good _ (nodes.good [] tt);
-    })
+      names = props.good (nodes_entries nodes.item []) (nodes.good [] tt);
+    }

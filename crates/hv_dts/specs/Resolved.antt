@@ -8,7 +8,7 @@ use Rattle.hv_dtree.specs.declared.node.Node.{Node}
 use Rattle.hv_dtree.specs.declared.node.Node.TheViews.{roll-Node}
 use Rattle.hv_dts.specs.Contents.{PropSyntax, NodesSyntax, none, node, SourceSyntax, entries_of}
 use Rattle.hv_dts.specs.Bytes.{Links, cell_bytes, values_bytes, cells_references, is_phandle_name, phandle_number}
-use Rattle.hv_dts.specs.Rules.{has_name, numbers_after}
+use Rattle.hv_dts.specs.Rules.{has_name, names_of, cell_references, numbers_after}
 use Rattle.hv_dts.specs.declared.contents.Named.{Named}
 use Rattle.hv_dts.specs.declared.contents.Value.{Value}
 use Rattle.hv_dts.specs.declared.contents.Value.TheVariants as value
@@ -32,20 +32,9 @@ nodes_sites above (node labels name props children rest) =
     record { labels = labels; path = above ++ 47 ∷ name.name; own = own_phandle props }
     ∷ (nodes_sites (above ++ 47 ∷ name.name) children ++ nodes_sites above rest)
 
--- the references in the lists of cells of values
-abbrev pub cell_lists_references : List Value → List Named
-cell_lists_references [] = []
-cell_lists_references (value.Cells cells ∷ values) = cells_references cells ++ cell_lists_references values
-cell_lists_references (other ∷ values) = cell_lists_references values
-
-abbrev pub cell_references : Entry → List Named
-cell_references (entry.Property labels name values) = cell_lists_references values
-cell_references (entry.Open labels name) = []
-cell_references entry.Close = []
-
 -- the labels that lists of cells refer to
 abbrev pub asked_labels : List Entry → List (List ℕ)
-asked_labels entries = map (λ label. label.name) (flat_map cell_references entries)
+asked_labels entries = names_of (flat_map cell_references entries)
 
 -- the numbers of the phandles of a source
 abbrev pub used_numbers : List Entry → List ℕ

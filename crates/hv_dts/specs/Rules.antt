@@ -4,7 +4,7 @@ use Rattle.std.specs.Option.{option_map, option_or}
 use Rattle.std.specs.List.{list_any, flat_map}
 use Rattle.std.specs.Cmp.Lexicographic.{pointwise}
 use Rattle.hv_dts.specs.Contents.{PropSyntax, NodesSyntax, none, node, SourceSyntax, entries_of}
-use Rattle.hv_dts.specs.Bytes.{values_references, is_phandle_name, phandle_number}
+use Rattle.hv_dts.specs.Bytes.{cell_lists_references, paths_references, is_phandle_name, phandle_number}
 use Rattle.hv_dts.specs.declared.contents.Named.{Named}
 use Rattle.hv_dts.specs.declared.contents.Entry.{Entry}
 use Rattle.hv_dts.specs.declared.contents.Entry.TheVariants as entry
@@ -84,22 +84,31 @@ node_labels (entry.Property labels name values) = []
 node_labels (entry.Open labels name) = labels
 node_labels entry.Close = []
 
-abbrev pub all_node_labels : List Entry → List (List ℕ)
-all_node_labels entries = map (λ label. label.name) (flat_map node_labels entries)
+-- the references in lists of cells, and the others
+abbrev pub cell_references : Entry → List Named
+cell_references (entry.Property labels name values) = cell_lists_references values
+cell_references (entry.Open labels name) = []
+cell_references entry.Close = []
 
--- all references in order
-abbrev pub entry_references : Entry → List Named
-entry_references (entry.Property labels name values) = values_references values
-entry_references (entry.Open labels name) = []
-entry_references entry.Close = []
+abbrev pub path_references : Entry → List Named
+path_references (entry.Property labels name values) = paths_references values
+path_references (entry.Open labels name) = []
+path_references entry.Close = []
 
-abbrev pub references_of : List Entry → List Named
-references_of entries = flat_map entry_references entries
+-- the names among names with places
+abbrev pub names_of : List Named → List (List ℕ)
+names_of labels = map (λ label. label.name) labels
 
 -- the places of references to labels that are none of these
 abbrev pub unlabelled : List (List ℕ) → List Named → List ℕ
 unlabelled labels [] = []
 unlabelled labels (name ∷ names) = place_if (not (has_name labels name.name)) name.place ++ unlabelled labels names
+
+-- the places of references to labels that no node has
+abbrev pub unlabelled_references : List Entry → List ℕ
+unlabelled_references entries =
+    let labels = names_of (flat_map node_labels entries) in
+    unlabelled labels (flat_map cell_references entries) ++ unlabelled labels (flat_map path_references entries)
 
 -- the lesser of two places, where they are there
 abbrev pub lesser : Option ℕ → Option ℕ → Option ℕ
@@ -118,4 +127,4 @@ broken_rule source =
     let entries = entries_of source in
     option_or (option_map (λ place. refusal.TwiceNamed place) (least (twice_named source)))
     (option_or (option_map (λ place. refusal.BadPhandle place) (least (bad_phandles [] entries)))
-    (option_map (λ place. refusal.NoLabel place) (least (unlabelled (all_node_labels entries) (references_of entries)))))
+    (option_map (λ place. refusal.NoLabel place) (least (unlabelled_references entries))))
