@@ -8,3 +8,7 @@ pub mod Twice
 pub mod Nesting
 pub mod Labels
 pub mod Numbers
+pub mod Links
+pub mod Trees
+pub mod Standing
+pub mod Unique

@@ -101,31 +101,9 @@ pub same_ends : {X : Type 0} (xs ys : List X) (x y : X) → xs ++ x ∷ [] ≡ y
 same_ends xs ys x y e =
     (sym (front_of xs x) ∙ ap front e ∙ front_of ys y, some_same x y (sym (end_of xs x) ∙ ap ends e ∙ end_of ys y))
 
-not_empty : {X : Type 0} (xs : List X) (x : X) → xs ++ x ∷ [] ≡ [] → ⊥
+pub not_empty : {X : Type 0} (xs : List X) (x : X) → xs ++ x ∷ [] ≡ [] → ⊥
 not_empty [] x e = cc e
 not_empty (y ∷ xs) x e = cc e
-
--- the innermost set is taken
-pub popped : (sets new : List (BTreeSet (List ℕ))) (names : List (List ℕ)) (around : List (List (List ℕ))) (top : BTreeSet (List ℕ)) → AllHold sets (names ∷ around) → sets ≡ new ++ top ∷ [] → Holds top names × AllHold new around
-popped sets new names around top (below, last, is, holds, rest) taken =
-    let both = same_ends below new last top (sym is ∙ taken) in
-    (subst (λ (s : BTreeSet (List ℕ)). Holds s names) both.1 holds, subst (λ (ss : List (BTreeSet (List ℕ))). AllHold ss around) both.0 rest)
-
-pub none_popped : (sets : List (BTreeSet (List ℕ))) (names : List (List ℕ)) (around : List (List (List ℕ))) → AllHold sets (names ∷ around) → sets ≡ [] → ⊥
-none_popped sets names around (below, last, is, holds, rest) empty = not_empty below last (sym is ∙ empty)
-
--- a node ended
-pub closed : (old new : Members) (names : Siblings) (around : List (List (List ℕ))) (taken : Option (BTreeSet (List ℕ))) → names.around ≡ around → Follows old names → new.best ≡ old.best → new.props ≡ old.props
-    → MatchOption taken ((old.around.items ≡ []) × (new.around.items ≡ [])) (λ top. old.around.items ≡ new.around.items ++ top ∷ []) → MatchOption taken (new.children ≡ old.children) (λ top. new.children ≡ top) → Follows new (outside names around)
-closed old new names [] None is it best props pop then =
-    record { best = best ∙ it.best; props = subst (λ (s : BTreeSet (List ℕ)). Holds s names.props) (sym props) it.props; children = subst (λ (s : BTreeSet (List ℕ)). Holds s names.children) (sym then) it.children; around = subst (AllHold new.around.items) (sym is) pop.1 }
-closed old new names [] (Some top) is it best props pop then =
-    absurd (not_empty new.around.items top (sym pop ∙ subst (AllHold old.around.items) is it.around))
-closed old new names (outer ∷ around) None is it best props pop then =
-    absurd (none_popped old.around.items outer around (subst (AllHold old.around.items) is it.around) pop.0)
-closed old new names (outer ∷ around) (Some top) is it best props pop then =
-    let below = popped old.around.items new.around.items outer around top (subst (AllHold old.around.items) is it.around) pop in
-    record { best = best ∙ it.best; props = subst (λ (s : BTreeSet (List ℕ)). Holds s names.props) (sym props) it.props; children = subst (λ (s : BTreeSet (List ℕ)). Holds s outer) (sym then) below.0; around = below.1 }
 
 -- the entries that are left lead to the same
 pub record Following (members : Members) (left entries : List Entry) : Type 0 where

@@ -13,3 +13,5 @@ pub mod Gathering
 pub mod Sets
 pub mod Siblings
 pub mod Maps
+pub mod Linking
+pub mod Building

@@ -52,9 +52,9 @@ pub record IsLeastFree (used : List ℕ) (from number : ℕ) : Type 0 where
 
 -- of nodes in order the needy ones get the least numbers that are free from one on
 pub data AreGiven (asked : List (List ℕ)) (used : List ℕ) : ℕ → List Site → List (Option ℕ) → Type 0 where
-  no_site : {from : ℕ} → AreGiven asked used from [] []
-  needy : {from : ℕ} {sites : List Site} {given : List (Option ℕ)} (site : Site) (number : ℕ) → is_needy asked site ≡ true → IsLeastFree used from number → AreGiven asked used (number + 1) sites given → AreGiven asked used from (site ∷ sites) (Some number ∷ given)
-  other : {from : ℕ} {sites : List Site} {given : List (Option ℕ)} (site : Site) → is_needy asked site ≡ false → AreGiven asked used from sites given → AreGiven asked used from (site ∷ sites) (None ∷ given)
+  no_nodes : {from : ℕ} → AreGiven asked used from [] []
+  gets_number : {from : ℕ} {sites : List Site} {given : List (Option ℕ)} (site : Site) (number : ℕ) → is_needy asked site ≡ true → IsLeastFree used from number → AreGiven asked used (number + 1) sites given → AreGiven asked used from (site ∷ sites) (Some number ∷ given)
+  gets_none : {from : ℕ} {sites : List Site} {given : List (Option ℕ)} (site : Site) → is_needy asked site ≡ false → AreGiven asked used from sites given → AreGiven asked used from (site ∷ sites) (None ∷ given)
 
 -- whether a node has a label
 abbrev pub has_label : List ℕ → Site → Bool
@@ -77,11 +77,15 @@ links_of nodes = record {
 abbrev pub prop_tree : Links → PropSyntax → Prop
 prop_tree links prop = record { name = prop.name.name; value = values_bytes links prop.values }
 
--- the property of the number that the first of some nodes was given
-abbrev pub given_prop : List (Option ℕ) → List Prop
-given_prop [] = []
-given_prop (None ∷ given) = []
-given_prop (Some number ∷ given) = record { name = codes "phandle"; value = cell_bytes number } ∷ []
+-- the property of a number that was given
+abbrev pub number_prop : Option ℕ → List Prop
+number_prop None = []
+number_prop (Some number) = record { name = codes "phandle"; value = cell_bytes number } ∷ []
+
+-- what the first of some nodes was given
+abbrev pub given_first : List (Option ℕ) → Option ℕ
+given_first [] = None
+given_first (first ∷ given) = first
 
 -- what the nodes behind the first, and behind some nodes with all below them, were given
 abbrev pub given_next : List (Option ℕ) → List (Option ℕ)
@@ -98,7 +102,7 @@ nodes_trees links none given = []
 nodes_trees links (node labels name props children rest) given =
     roll-Node (record {
       name = name.name;
-      props = map (prop_tree links) props ++ given_prop given;
+      props = map (prop_tree links) props ++ number_prop (given_first given);
       children = nodes_trees links children (given_next given);
     })
     ∷ nodes_trees links rest (given_behind children (given_next given))

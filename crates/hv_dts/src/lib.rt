@@ -1,16 +1,19 @@
 //! Device tree source.
 #![tactic(auto)]
 
+mod build;
 mod contents;
 mod entries;
 mod gathered;
 mod grammar;
 mod lexed;
+mod linking;
 mod members;
 mod names;
 mod phandles;
 mod print;
 mod print_line;
+mod read;
 mod references;
 mod refusal;
 mod step;
@@ -22,5 +25,6 @@ mod values;
 mod word;
 
 pub use print::print_dts;
+pub use read::read_root;
 pub use refusal::DtsRefusal;
 pub use syntax::{SyntaxRefusal, source_tokens};

@@ -58,6 +58,15 @@ fn push_cell(out: &mut Vec<u8>, number: u32) -> Result<(), AllocError>
     ])
 }
 
+/// The four bytes of a cell.
+pub fn cell_bytes(alloc: Global, number: u32) -> Result<Bytes, AllocError>
+    ensures { IfOk result (λ bytes. bytes ≡ cell_bytes number) }
+{
+    let mut out = Vec::new(alloc);
+    push_cell(&mut out, number)?;
+    Ok(Bytes::from_vec(out))
+}
+
 fn push_cells(out: &mut Vec<u8>, cells: &[Cell], links: &LinkMaps) -> Result<(), AllocError>
     ensures { OnOk result (out.new.items ≡ out.old.items ++ cells_bytes (links_in links.now) cells.now) }
 {
