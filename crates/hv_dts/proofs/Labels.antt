@@ -41,7 +41,7 @@ covers_more set new names i one lt is step it =
       seen = one.now.name ∷ it.seen;
       holds = step it.seen it.holds;
       all = λ name. or_swap (pointwise nat_eq one.now.name name) (has_name it.seen name) (has_name (names_of (lent rest)) name)
-        ∙ ap (λ (ns : List Named). has_name it.seen name || has_name (names_of ns) name) (sym here) ∙ it.all name;
+          ∙ ap (λ (ns : List Named). has_name it.seen name || has_name (names_of ns) name) (sym here) ∙ it.all name;
     }
 
 pub covers_all : (set : BTreeSet (List ℕ)) (names : List (Bor Named)) (i : ℕ) → length names ≤ i → Covers set (lent (drop i names)) (lent names) → Holds set (names_of (lent names))

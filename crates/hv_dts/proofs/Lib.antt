@@ -12,3 +12,5 @@ pub mod Links
 pub mod Trees
 pub mod Standing
 pub mod Unique
+pub mod GoodNames
+pub mod Rooted

@@ -248,9 +248,9 @@ nodes_are c.none entries tail = refl
 nodes_are (c.node labels name props children rest) entries tail =
     ap (λ (r : List Piece). labels_pieces labels (c.word name ∷ c.mark on.NodeOpen ∷ r))
     (props_are props (nodes_entries children (entry.Close ∷ nodes_entries rest entries)) tail
-      ∙ ap (props_pieces props)
-        (nodes_are children (entry.Close ∷ nodes_entries rest entries) tail
-          ∙ ap (λ (r : List Piece). nodes_pieces children (c.mark on.NodeClose ∷ c.mark on.Semicolon ∷ r)) (nodes_are rest entries tail)))
+    ∙ ap (props_pieces props)
+    (nodes_are children (entry.Close ∷ nodes_entries rest entries) tail
+    ∙ ap (λ (r : List Piece). nodes_pieces children (c.mark on.NodeClose ∷ c.mark on.Semicolon ∷ r)) (nodes_are rest entries tail)))
 
 fit_end : (pieces : List Piece) → Fit pieces [] → pieces ≡ []
 fit_end [] fit = refl
@@ -280,7 +280,7 @@ written_of source tokens is =
     let closed = begins on.NodeClose (on.Semicolon ∷ []) nodes.rest nodes.fit in
     let last = begins on.Semicolon [] closed.rest closed.fit in
     let foot : nodes.rest ≡ c.mark on.NodeClose ∷ c.mark on.Semicolon ∷ [] =
-      closed.parts ∙ (λ i. closed.fits i ∷ (last.parts ∙ (λ j. last.fits j ∷ fit_end last.rest last.fit j)) i) in
+    closed.parts ∙ (λ i. closed.fits i ∷ (last.parts ∙ (λ j. last.fits j ∷ fit_end last.rest last.fit j)) i) in
     let inner = opened.parts ∙ (λ i. opened.fits i ∷ (props.parts ∙ ap (props_pieces props.item) (nodes.parts ∙ ap (nodes_pieces nodes.item) foot)) i) in
     let syntax : SourceSyntax = record { props = props.item; nodes = nodes.item } in
     let entries = sym (props_are props.item (nodes_entries nodes.item []) (c.mark on.NodeClose ∷ c.mark on.Semicolon ∷ []) ∙ ap (props_pieces props.item) (nodes_are nodes.item [] (c.mark on.NodeClose ∷ c.mark on.Semicolon ∷ []))) in

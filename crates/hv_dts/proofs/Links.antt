@@ -42,7 +42,7 @@ pub first_put : {X : Type 0} (old new : BTreeMap (List ℕ) X) (key label : List
 first_put old new key label value same absent put = λ name.
     put name ∙ ap (λ (b : Bool). cond b (Some value) (get (slice_cmp nat_cmp) old name)) (sym (texts_ties key name) ∙ ap (λ (k : List ℕ). pointwise nat_eq k name) same)
     ∙ put_if (pointwise nat_eq label name) (get (slice_cmp nat_cmp) old name) value
-      (λ e. subst (λ (l : List ℕ). is_some (get (slice_cmp nat_cmp) old l) ≡ false) ((bytes_decides label name).0 e) absent)
+    (λ e. subst (λ (l : List ℕ). is_some (get (slice_cmp nat_cmp) old l) ≡ false) ((bytes_decides label name).0 e) absent)
 
 abbrev pub any_label : List Named → List ℕ → Bool
 any_label labels name = list_any (λ label. pointwise nat_eq label.name name) labels
@@ -101,7 +101,7 @@ leads_more wanted old new nodes site given number it more is numbers paths =
       given = more ∙ ap (λ (gs : List (Option ℕ)). gs ++ given ∷ []) it.given ∙ sym (map-append (λ (numbered : Numbered). numbered.1) nodes (one ∷ []));
       numbers = λ name. numbers name ∙ ap (λ (o : Option ℕ). option_or o (some_if (any_label site.labels name) number)) (it.numbers name) ∙ found_more number_then nodes one name number is;
       paths = λ name asks. paths name asks ∙ ap (λ (o : Option (List ℕ)). option_or o (some_if (any_label site.labels name) site.path)) (it.paths name asks)
-        ∙ found_more (λ (numbered : Numbered). numbered.0.path) nodes one name site.path refl;
+          ∙ found_more (λ (numbered : Numbered). numbered.0.path) nodes one name site.path refl;
     }
 
 pub last_of : {X : Type 0} (xs : List X) (x : X) → without_last (xs ++ x ∷ []) ≡ xs
@@ -143,14 +143,14 @@ linked_step cells wanted used old new (entry.Open labels name) rest entries it s
       nodes = it.nodes ++ one ∷ [];
       leads = step.leads;
       sites = ap (λ (a : List (List ℕ)). map first (it.nodes ++ one ∷ []) ++ sites_from a rest) step.around
-        ∙ ap (λ (ss : List Site). ss ++ sites_from (old.around ++ name.name ∷ []) rest) (map-append first it.nodes (one ∷ []))
-        ∙ append_assoc (map first it.nodes) (site ∷ []) (sites_from (old.around ++ name.name ∷ []) rest) ∙ it.sites;
+          ∙ ap (λ (ss : List Site). ss ++ sites_from (old.around ++ name.name ∷ []) rest) (map-append first it.nodes (one ∷ []))
+          ∙ append_assoc (map first it.nodes) (site ∷ []) (sites_from (old.around ++ name.name ∷ []) rest) ∙ it.sites;
       fresh = λ more given are.
           let all = it.fresh (site ∷ more) (step.given ∷ given) (gives_more cells used site old.next new.next step.given more given step.gives are) in
           let left : map first (it.nodes ++ one ∷ []) ++ more ≡ map first it.nodes ++ site ∷ more =
-            ap (λ (ss : List Site). ss ++ more) (map-append first it.nodes (one ∷ [])) ∙ append_assoc (map first it.nodes) (site ∷ []) more in
+          ap (λ (ss : List Site). ss ++ more) (map-append first it.nodes (one ∷ [])) ∙ append_assoc (map first it.nodes) (site ∷ []) more in
           let right : map second (it.nodes ++ one ∷ []) ++ given ≡ map second it.nodes ++ step.given ∷ given =
-            ap (λ (gs : List (Option ℕ)). gs ++ given) (map-append second it.nodes (one ∷ [])) ∙ append_assoc (map second it.nodes) (step.given ∷ []) given in
+          ap (λ (gs : List (Option ℕ)). gs ++ given) (map-append second it.nodes (one ∷ [])) ∙ append_assoc (map second it.nodes) (step.given ∷ []) given in
           subst (λ (ss : List Site). AreGiven cells used 1 ss (map second (it.nodes ++ one ∷ []) ++ given)) (sym left)
           (subst (λ (gs : List (Option ℕ)). AreGiven cells used 1 (map first it.nodes ++ site ∷ more) gs) (sym right) all);
     }
@@ -178,5 +178,5 @@ linked_all cells wanted used linking entries i over it =
       sites = sym (append-nil (map first it.nodes)) ∙ ap (λ (es : List Entry). map first it.nodes ++ sites_from linking.around es) (sym (drop_all i entries over)) ∙ it.sites;
       leads = it.leads;
       given = subst (λ (ss : List Site). AreGiven cells used 1 ss (map second it.nodes)) (append-nil (map first it.nodes))
-        (subst (AreGiven cells used 1 (map first it.nodes ++ [])) (append-nil (map second it.nodes)) (it.fresh [] [] no_nodes));
+          (subst (AreGiven cells used 1 (map first it.nodes ++ [])) (append-nil (map second it.nodes)) (it.fresh [] [] no_nodes));
     }

@@ -34,7 +34,7 @@ props_on [] tail best earlier children around = ap (λ (b : Option ℕ). after_a
 props_on (prop ∷ props) tail best earlier children around =
     props_on props tail (lesser best (least (place_if (has_name earlier prop.name.name) prop.name.place))) (prop.name.name ∷ earlier) children around
     ∙ ap (λ (b : Option ℕ). after_all (of b (props_after (prop.name.name ∷ earlier) props) children around) tail)
-      (least_more best (place_if (has_name earlier prop.name.name) prop.name.place) (props_repeated (prop.name.name ∷ earlier) props))
+    (least_more best (place_if (has_name earlier prop.name.name) prop.name.place) (props_repeated (prop.name.name ∷ earlier) props))
 
 four : (best : Option ℕ) (a b c d : List ℕ) → lesser (lesser (lesser (lesser best (least a)) (least b)) (least c)) (least d) ≡ lesser best (least (a ++ (b ++ (c ++ d))))
 four best a b c d =
@@ -63,7 +63,7 @@ nodes_on (node labels name ps children rest) tail best props earlier around =
     record {
       left = others.left;
       same = props_on ps (nodes_entries children after) one [] [] outer ∙ inner.same ∙ others.same
-        ∙ ap (λ (b : Option ℕ). after_all (of b others.left (nodes_after (name.name ∷ earlier) rest) around) tail) (four best here within below behind);
+          ∙ ap (λ (b : Option ℕ). after_all (of b others.left (nodes_after (name.name ∷ earlier) rest) around) tail) (four best here within below behind);
     }
 
 pub members_of : (source : SourceSyntax) → (after_all no_siblings (entries_of source)).best ≡ least (props_repeated [] source.props ++ nodes_repeated [] source.nodes)

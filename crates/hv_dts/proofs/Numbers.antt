@@ -59,8 +59,8 @@ counting_more found new entries i one lt is step it =
       earlier = after;
       holds = taken.1;
       same = ap (λ (o : Option ℕ). lesser o (least (bad_phandles after rest))) taken.0
-        ∙ least_more found.best (bad_here it.earlier one) (bad_phandles after rest)
-        ∙ ap (λ (es : List Entry). lesser found.best (least (bad_phandles it.earlier es))) (sym here) ∙ it.same;
+          ∙ least_more found.best (bad_here it.earlier one) (bad_phandles after rest)
+          ∙ ap (λ (es : List Entry). lesser found.best (least (bad_phandles it.earlier es))) (sym here) ∙ it.same;
       numbers = ap (fold numbers_after it.earlier) (sym here) ∙ it.numbers;
     }
 

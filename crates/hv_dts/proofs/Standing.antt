@@ -56,15 +56,15 @@ sites_nodes around (node labels name props children rest) tail =
     let above = names_path around in
     let site : List ℕ → Option ℕ → Site = λ path own. record { labels = labels; path = path; own = own } in
     let here : site_here around labels name (props_entries props (nodes_entries children after)) ≡ site (above ++ 47 ∷ name.name) (own_phandle props) =
-      ap (λ (p : List ℕ). site p (following_phandle (props_entries props (nodes_entries children after)))) (path_more around name.name)
-      ∙ ap (site (above ++ 47 ∷ name.name)) (own_is props (nodes_entries children after) (no_prop_first children (nodes_entries rest tail))) in
+    ap (λ (p : List ℕ). site p (following_phandle (props_entries props (nodes_entries children after)))) (path_more around name.name)
+    ∙ ap (site (above ++ 47 ∷ name.name)) (own_is props (nodes_entries children after) (no_prop_first children (nodes_entries rest tail))) in
     let outer : sites_from (without_last within) (nodes_entries rest tail) ≡ nodes_sites above rest ++ sites_from around tail =
-      ap (λ (a : List (List ℕ)). sites_from a (nodes_entries rest tail)) (last_of around name.name) ∙ sites_nodes around rest tail in
+    ap (λ (a : List (List ℕ)). sites_from a (nodes_entries rest tail)) (last_of around name.name) ∙ sites_nodes around rest tail in
     let below : sites_from within (props_entries props (nodes_entries children after)) ≡ (nodes_sites (above ++ 47 ∷ name.name) children ++ nodes_sites above rest) ++ sites_from around tail =
-      sites_props within props (nodes_entries children after) ∙ sites_nodes within children after
-      ∙ ap (λ (p : List ℕ). nodes_sites p children ++ sites_from (without_last within) (nodes_entries rest tail)) (path_more around name.name)
-      ∙ ap (λ (ss : List Site). nodes_sites (above ++ 47 ∷ name.name) children ++ ss) outer
-      ∙ sym (append_assoc (nodes_sites (above ++ 47 ∷ name.name) children) (nodes_sites above rest) (sites_from around tail)) in
+    sites_props within props (nodes_entries children after) ∙ sites_nodes within children after
+    ∙ ap (λ (p : List ℕ). nodes_sites p children ++ sites_from (without_last within) (nodes_entries rest tail)) (path_more around name.name)
+    ∙ ap (λ (ss : List Site). nodes_sites (above ++ 47 ∷ name.name) children ++ ss) outer
+    ∙ sym (append_assoc (nodes_sites (above ++ 47 ∷ name.name) children) (nodes_sites above rest) (sites_from around tail)) in
     λ i. here i ∷ below i
 
 pub sites_are : (source : SourceSyntax) → sites_from [] (entries_of source) ≡ nodes_sites [] source.nodes
@@ -113,9 +113,10 @@ or_left false b e = absurd (cc e)
 -- names are among themselves
 all_among : (all : List (List ℕ)) (names : List Named) → ((name : List ℕ) → has_name (names_of names) name ≡ true → has_name all name ≡ true) → AllByRecursion (λ (label : Named). has_name all label.name ≡ true) names
 all_among all [] sub = tt
-all_among all (n ∷ names) sub =
-    (sub n.name (or_left (pointwise nat_eq n.name n.name) (has_name (names_of names) n.name) ((bytes_decides n.name n.name).1 refl)),
-      all_among all names (λ name has. sub name (or_right (pointwise nat_eq n.name name) (has_name (names_of names) name) has)))
+all_among all (n ∷ names) sub = (
+  sub n.name (or_left (pointwise nat_eq n.name n.name) (has_name (names_of names) n.name) ((bytes_decides n.name n.name).1 refl)),
+  all_among all names (λ name has. sub name (or_right (pointwise nat_eq n.name name) (has_name (names_of names) name) has)),
+)
 
 zip_parts : (nodes : List Numbered) → zip (map (λ numbered. numbered.0) nodes) (map (λ numbered. numbered.1) nodes) ≡ nodes
 zip_parts [] = refl
@@ -129,24 +130,24 @@ stands source entries linking root are linked is =
     let sites : map (λ (numbered : Numbered). numbered.0) linked.nodes ≡ nodes_sites [] source.nodes = linked.sites ∙ ap (sites_from []) are ∙ sites_are source in
     let given : map (λ (numbered : Numbered). numbered.1) linked.nodes ≡ linking.given.items = sym linked.leads.given in
     let known : links_of linked.nodes ≡ links_of (zip (nodes_sites [] source.nodes) linking.given.items) =
-      ap links_of (sym (zip_parts linked.nodes)) ∙ ap (λ (ss : List Site). links_of (zip ss (map (λ (numbered : Numbered). numbered.1) linked.nodes))) sites
-      ∙ ap (λ (gs : List (Option ℕ)). links_of (zip (nodes_sites [] source.nodes) gs)) given in
+    ap links_of (sym (zip_parts linked.nodes)) ∙ ap (λ (ss : List Site). links_of (zip ss (map (λ (numbered : Numbered). numbered.1) linked.nodes))) sites
+    ∙ ap (λ (gs : List (Option ℕ)). links_of (zip (nodes_sites [] source.nodes) gs)) given in
     let numbers : (name : List ℕ) → (links_in linking.links).number name ≡ (links_of linked.nodes).number name = λ name. ap (λ (o : Option ℕ). unwrap_or o 0) (linked.leads.numbers name) in
     let paths : (name : List ℕ) → has_name wanted name ≡ true → (links_in linking.links).path name ≡ (links_of linked.nodes).path name =
-      λ name asks. ap (λ (o : Option (List ℕ)). unwrap_or o []) (linked.leads.paths name asks) in
+    λ name asks. ap (λ (o : Option (List ℕ)). unwrap_or o []) (linked.leads.paths name asks) in
     let asked = all_among wanted (flat_map path_references entries) (λ name has. has) in
     let start = nothing_built linking.given.items in
     let same : built_all (links_in linking.links) start entries ≡ built_all (links_of linked.nodes) start entries = built_agree (links_in linking.links) (links_of linked.nodes) wanted numbers paths entries start asked in
     let built : root_tree (links_in linking.links) source linking.given.items ≡ root_tree (links_of linked.nodes) source linking.given.items =
-      sym (source_on (links_in linking.links) source linking.given.items)
-      ∙ ap (λ (es : List Entry). frame_tree (built_all (links_in linking.links) start es).hand) (sym are)
-      ∙ ap (λ (b : Built). frame_tree b.hand) same
-      ∙ ap (λ (es : List Entry). frame_tree (built_all (links_of linked.nodes) start es).hand) are
-      ∙ source_on (links_of linked.nodes) source linking.given.items in
+    sym (source_on (links_in linking.links) source linking.given.items)
+    ∙ ap (λ (es : List Entry). frame_tree (built_all (links_in linking.links) start es).hand) (sym are)
+    ∙ ap (λ (b : Built). frame_tree b.hand) same
+    ∙ ap (λ (es : List Entry). frame_tree (built_all (links_of linked.nodes) start es).hand) are
+    ∙ source_on (links_of linked.nodes) source linking.given.items in
     record {
       given = linking.given.items;
       least_free = subst (λ (ss : List Site). AreGiven (asked_labels (entries_of source)) (used_numbers (entries_of source)) 1 ss linking.given.items) sites
-        (subst (AreGiven (asked_labels (entries_of source)) (used_numbers (entries_of source)) 1 (map (λ (numbered : Numbered). numbered.0) linked.nodes)) given
+          (subst (AreGiven (asked_labels (entries_of source)) (used_numbers (entries_of source)) 1 (map (λ (numbered : Numbered). numbered.0) linked.nodes)) given
           (subst (λ (es : List Entry). AreGiven (asked_labels es) (used_numbers es) 1 (map (λ (numbered : Numbered). numbered.0) linked.nodes) (map (λ (numbered : Numbered). numbered.1) linked.nodes)) are linked.given));
       is = is ∙ built ∙ ap (λ (l : Links). root_tree l source linking.given.items) known;
     }

@@ -88,7 +88,7 @@ closed old new it (frame ∷ around) outer tree is builds taken ended_as hand gi
     let both = same_ends stack.0 new.around frame outer (sym stack.1 ∙ taken) in
     record {
       hand = hand ∙ ap (λ (t : Node). record outer { children = outer.children ++ t ∷ [] }) (ended_as ∙ ap frame_tree builds.hand)
-        ∙ ap (λ (f : Frame). record f { children = f.children ++ frame_tree it.hand ∷ [] }) (sym both.1);
+          ∙ ap (λ (f : Frame). record f { children = f.children ++ frame_tree it.hand ∷ [] }) (sym both.1);
       around = subst (λ (fs : List Frame). Stacked fs around) both.0 stack.2;
       given = given ∙ builds.given;
     }

@@ -76,8 +76,8 @@ noting_more names new best next before labels i label earlier lt is noted it =
       seen = label.name ∷ it.seen;
       holds = step.1;
       same = ap (λ (o : Option ℕ). lesser o (least (repeated (label.name ∷ it.seen) rest))) step.0
-        ∙ least_more best (place_if (has_name it.seen label.name) label.place) (repeated (label.name ∷ it.seen) rest)
-        ∙ ap (λ (ls : List Named). lesser best (least (repeated it.seen ls))) (sym here) ∙ it.same;
+          ∙ least_more best (place_if (has_name it.seen label.name) label.place) (repeated (label.name ∷ it.seen) rest)
+          ∙ ap (λ (ls : List Named). lesser best (least (repeated it.seen ls))) (sym here) ∙ it.same;
       end = ap (seen_after it.seen) (sym here) ∙ it.end;
     }
 
@@ -111,10 +111,10 @@ noting_entry names new best next entries i one labels lt is has noted it =
       seen = seen_after it.seen labels;
       holds = step.1;
       same = ap (λ (o : Option ℕ). lesser o (least (repeated (seen_after it.seen labels) (labels_of rest)))) step.0
-        ∙ least_more best (repeated it.seen labels) (repeated (seen_after it.seen labels) (labels_of rest))
-        ∙ ap (λ (t : List ℕ). lesser best (least t)) (sym (repeated_append it.seen labels (labels_of rest)))
-        ∙ ap (λ (ls : List Named). lesser best (least (repeated it.seen (ls ++ labels_of rest)))) has
-        ∙ ap (λ (es : List Entry). lesser best (least (repeated it.seen (labels_of es)))) (sym here) ∙ it.same;
+          ∙ least_more best (repeated it.seen labels) (repeated (seen_after it.seen labels) (labels_of rest))
+          ∙ ap (λ (t : List ℕ). lesser best (least t)) (sym (repeated_append it.seen labels (labels_of rest)))
+          ∙ ap (λ (ls : List Named). lesser best (least (repeated it.seen (ls ++ labels_of rest)))) has
+          ∙ ap (λ (es : List Entry). lesser best (least (repeated it.seen (labels_of es)))) (sym here) ∙ it.same;
     }
 
 pub noted_all : (names : BTreeSet (List ℕ)) (best : Option ℕ) (entries : List Entry) (i : ℕ) → length entries ≤ i → NotingAll names best (drop i entries) entries → best ≡ least (repeated [] (labels_of entries))

@@ -241,9 +241,9 @@ nodes_say (node labels name props children rest) entries tail ends well behind =
     let last = nodes_then (nodes_shape rest) ends in
     labels_say labels (c.word name ∷ c.mark on.NodeOpen ∷ inner)
     ∙ ap (labels_then (length labels)) (λ i. node_says name (is_prop_name name.name) well.0 refl i ∷ on.NodeOpen ∷
-        props_say props (nodes_entries children after) tail (nodes_then (nodes_shape children) (on.NodeClose ∷ on.Semicolon ∷ last)) well.1
-          (λ within. nodes_say children after tail (on.NodeClose ∷ on.Semicolon ∷ last) within
-            (λ closed. ap (λ (ss : List Symbol). on.NodeClose ∷ on.Semicolon ∷ ss) (nodes_say rest entries tail ends closed.1 behind))) i)
+    props_say props (nodes_entries children after) tail (nodes_then (nodes_shape children) (on.NodeClose ∷ on.Semicolon ∷ last)) well.1
+    (λ within. nodes_say children after tail (on.NodeClose ∷ on.Semicolon ∷ last) within
+    (λ closed. ap (λ (ss : List Symbol). on.NodeClose ∷ on.Semicolon ∷ ss) (nodes_say rest entries tail ends closed.1 behind))) i)
 
 -- so what is written is a source by its symbols
 pub source_of : (text : List ℕ) (syntax : SourceSyntax) (it : IsWritten text syntax) → IsSource (symbols_of text it.tokens)
@@ -253,9 +253,9 @@ source_of text syntax it =
       props = map prop_shape syntax.props;
       nodes = nodes_shape syntax.nodes;
       parts = sym (tokens_say text it.tokens) ∙ ap say it.pieces
-        ∙ ap (λ (ss : List Symbol). on.Version ∷ on.Semicolon ∷ on.Root ∷ on.NodeOpen ∷ ss)
+          ∙ ap (λ (ss : List Symbol). on.Version ∷ on.Semicolon ∷ on.Root ∷ on.NodeOpen ∷ ss)
           (props_say syntax.props (nodes_entries syntax.nodes []) (c.mark on.NodeClose ∷ c.mark on.Semicolon ∷ []) (nodes_then (nodes_shape syntax.nodes) foot) it.names
-            (λ within. nodes_say syntax.nodes [] (c.mark on.NodeClose ∷ c.mark on.Semicolon ∷ []) foot within (λ nothing. refl)));
+          (λ within. nodes_say syntax.nodes [] (c.mark on.NodeClose ∷ c.mark on.Semicolon ∷ []) foot within (λ nothing. refl)));
     }
 
 -- a source isn't refused

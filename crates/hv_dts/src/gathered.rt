@@ -138,7 +138,9 @@ impl Gathered {
                 self.name = Some(named(alloc, bytes, token.start)?);
                 Ok(())
             }
-            TokenKind::Number => self.cells.push(Cell::Number(number_value(bytes).unwrap_or(0))),
+            TokenKind::Number => self
+                .cells
+                .push(Cell::Number(number_value(bytes).unwrap_or(0))),
             TokenKind::Text => {
                 let rest = bytes.split_at(bytes.len().min(1)).1;
                 let spelled = string_value(alloc, rest)?;

@@ -21,6 +21,8 @@ mod symbol;
 mod syntax;
 #[cfg(test)]
 mod tests;
+#[cfg(test)]
+mod tests_reading;
 mod values;
 mod word;
 

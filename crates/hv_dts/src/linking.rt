@@ -76,7 +76,7 @@ fn note_label(
         ≡ option_or (get (slice_cmp nat_cmp) links.old.numbers name) (some_if (pointwise ◌==◌ label.now.name name) number)) }
     ensures paths { (held : List (List ℕ)) → Holds wanted.now held
         → OnOk result ((name : List ℕ) → has_name held name ≡ true → get (slice_cmp nat_cmp) links.new.paths name
-            ≡ option_or (get (slice_cmp nat_cmp) links.old.paths name) (some_if (pointwise ◌==◌ label.now.name name) (names_path names.now))) }
+        ≡ option_or (get (slice_cmp nat_cmp) links.old.paths name) (some_if (pointwise ◌==◌ label.now.name name) (names_path names.now))) }
 {
     note_first(&mut links.numbers, &label.name, number)?;
     if wanted.contains(&label.name) {
@@ -97,7 +97,7 @@ fn note_labels(
         ≡ option_or (get (slice_cmp nat_cmp) links.old.numbers name) (some_if (list_any (λ label. pointwise ◌==◌ label.name name) labels.now) number)) }
     ensures paths { (held : List (List ℕ)) → Holds wanted.now held
         → OnOk result ((name : List ℕ) → has_name held name ≡ true → get (slice_cmp nat_cmp) links.new.paths name
-            ≡ option_or (get (slice_cmp nat_cmp) links.old.paths name) (some_if (list_any (λ label. pointwise ◌==◌ label.name name) labels.now) (names_path names.now))) }
+        ≡ option_or (get (slice_cmp nat_cmp) links.old.paths name) (some_if (list_any (λ label. pointwise ◌==◌ label.name name) labels.now) (names_path names.now))) }
 {
     for label in labels {
         note_label(alloc, links, wanted, names, number, label)?;
@@ -224,7 +224,13 @@ impl Linking {
     {
         match entry {
             Entry::Property(_, _, _) => Ok(()),
-            Entry::Open(labels, name) => self.open(alloc, asked, labels.as_slice(), name, following),
+            Entry::Open(labels, name) => self.open(
+                alloc,
+                asked,
+                labels.as_slice(),
+                name,
+                following,
+            ),
             Entry::Close => {
                 let _name = self.around.pop();
                 Ok(())

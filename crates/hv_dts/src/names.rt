@@ -38,7 +38,7 @@ pub fn note_place(
 ) -> Result<Option<usize>, AllocError>
     ensures { (earlier : List (List ℕ)) → Holds names.old earlier
         → IfOk result (λ next. (next ≡ lesser best (least (place_if (has_name earlier name.now.name) name.now.place)))
-            × Holds names.new (name.now.name ∷ earlier)) }
+        × Holds names.new (name.now.name ∷ earlier)) }
 {
     if note_name(names, &name.name)? {
         return Ok(lesser(best, Some(name.place)));
@@ -53,7 +53,7 @@ fn note_labels(
 ) -> Result<Option<usize>, AllocError>
     ensures { (earlier : List (List ℕ)) → Holds names.old earlier
         → IfOk result (λ next. (next ≡ lesser before (least (repeated earlier labels.now)))
-            × Holds names.new (seen_after earlier labels.now)) }
+        × Holds names.new (seen_after earlier labels.now)) }
 {
     let mut best = before;
     for label in labels {

@@ -21,7 +21,7 @@ impl Phandles {
     fn note(&mut self, number: u32, place: usize) -> Result<(), AllocError>
         ensures { (earlier : List ℕ) → HoldsNumbers self.old.used earlier
             → OnOk result ((self.new.best ≡ lesser self.old.best (least (bad_place earlier place (Some number))))
-                × HoldsNumbers self.new.used (number ∷ earlier)) }
+            × HoldsNumbers self.new.used (number ∷ earlier)) }
     {
         if !self.used.insert(number)? {
             self.best = lesser(self.best, Some(place));
@@ -32,7 +32,7 @@ impl Phandles {
     fn take(&mut self, alloc: Global, entry: &Entry) -> Result<(), AllocError>
         ensures { (earlier : List ℕ) → HoldsNumbers self.old.used earlier
             → OnOk result ((self.new.best ≡ lesser self.old.best (least (bad_here earlier entry.now)))
-                × HoldsNumbers self.new.used (numbers_after earlier entry.now)) }
+            × HoldsNumbers self.new.used (numbers_after earlier entry.now)) }
     {
         let Entry::Property(_, name, values) = entry else {
             return Ok(());

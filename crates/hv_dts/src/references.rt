@@ -67,7 +67,10 @@ fn push_paths<'a>(out: &mut Vec<&'a Named>, values: &'a [Value]) -> Result<(), A
 }
 
 /// The references in lists of cells.
-pub fn cell_references<'a>(alloc: Global, entries: &'a [Entry]) -> Result<Vec<&'a Named>, AllocError>
+pub fn cell_references<'a>(
+    alloc: Global,
+    entries: &'a [Entry],
+) -> Result<Vec<&'a Named>, AllocError>
     ensures { IfOk result (λ found. map (λ it. it.now) found.items ≡ flat_map cell_references entries.now) }
 {
     let mut out = Vec::new(alloc);
@@ -80,7 +83,10 @@ pub fn cell_references<'a>(alloc: Global, entries: &'a [Entry]) -> Result<Vec<&'
 }
 
 /// The other references.
-pub fn path_references<'a>(alloc: Global, entries: &'a [Entry]) -> Result<Vec<&'a Named>, AllocError>
+pub fn path_references<'a>(
+    alloc: Global,
+    entries: &'a [Entry],
+) -> Result<Vec<&'a Named>, AllocError>
     ensures { IfOk result (λ found. map (λ it. it.now) found.items ≡ flat_map path_references entries.now) }
 {
     let mut out = Vec::new(alloc);

@@ -8,4 +8,4 @@ pub returns : goal.returns
 returns c = λ entries here.
     all_but_last c.loop-token.gathered.entries c.pop-root.new.self entries entry.Close c.pop-root.result c.pop-root.ensures
     (ap (λ (it : Gathered). it.entries)
-      (gathered_all c.args.text.now c.args.tokens.now c.loop-token.token-index c.loop-token.gathered entries (omega arith) c.loop-token.invariant here))
+    (gathered_all c.args.text.now c.args.tokens.now c.loop-token.token-index c.loop-token.gathered entries (omega arith) c.loop-token.invariant here))

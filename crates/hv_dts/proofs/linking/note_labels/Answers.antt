@@ -15,9 +15,9 @@ loop-label-preserved c =
     let path = names_path c.args.names.now in
     record {
       numbers = λ name. first_more (get cmp old.numbers name) (get cmp new.numbers name) (option_or (get cmp c.args.links.now.numbers name) (some_if (any_label labels name) c.args.number)) labels c.loop-label.label-index c.label-item.result name c.args.number
-        c.loop-label-test.true c.label-item.is (c.in_ok-note_label.ensures.numbers name) (c.loop-label.invariant.numbers name);
+          c.loop-label-test.true c.label-item.is (c.in_ok-note_label.ensures.numbers name) (c.loop-label.invariant.numbers name);
       paths = λ held holds name asks. first_more (get cmp old.paths name) (get cmp new.paths name) (option_or (get cmp c.args.links.now.paths name) (some_if (any_label labels name) path)) labels c.loop-label.label-index c.label-item.result name path
-        c.loop-label-test.true c.label-item.is (c.in_ok-note_label.ensures.paths held holds name asks) (c.loop-label.invariant.paths held holds name asks);
+          c.loop-label-test.true c.label-item.is (c.in_ok-note_label.ensures.paths held holds name asks) (c.loop-label.invariant.paths held holds name asks);
     }
 
 pub returns-clause-numbers : goal.returns-clause-numbers

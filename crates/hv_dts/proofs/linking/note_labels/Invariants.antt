@@ -12,8 +12,8 @@ use Rattle.hv_dts.proofs.linking.note_labels.Given as goal
 abbrev pub invariant-loop-label : goal.invariant-loop-label
 invariant-loop-label l = record {
   numbers : (name : List ℕ) → option_or (get (slice_cmp nat_cmp) l.links.numbers name) (some_if (any_label (drop l.label-index l.labels) name) l.number)
-    ≡ option_or (get (slice_cmp nat_cmp) l.initial.links.numbers name) (some_if (any_label l.labels name) l.number);
+      ≡ option_or (get (slice_cmp nat_cmp) l.initial.links.numbers name) (some_if (any_label l.labels name) l.number);
   paths : (held : List (List ℕ)) → Holds l.wanted held → (name : List ℕ) → has_name held name ≡ true
-    → option_or (get (slice_cmp nat_cmp) l.links.paths name) (some_if (any_label (drop l.label-index l.labels) name) (names_path l.names))
-    ≡ option_or (get (slice_cmp nat_cmp) l.initial.links.paths name) (some_if (any_label l.labels name) (names_path l.names));
+      → option_or (get (slice_cmp nat_cmp) l.links.paths name) (some_if (any_label (drop l.label-index l.labels) name) (names_path l.names))
+      ≡ option_or (get (slice_cmp nat_cmp) l.initial.links.paths name) (some_if (any_label l.labels name) (names_path l.names));
 }

@@ -10,6 +10,7 @@ use Rattle.hv_dts.proofs.names.note_name.Goals as goal
 pub returns : goal.returns
 returns c = λ earlier holds.
     let name = c.in_ok-clone.field-0 in
-    let copied : name ≡ c.args.name.now = c.in_ok-clone.ensures.cases in
-    (was_there c.in_ok-added.added (contains (slice_cmp nat_cmp) c.args.names.now name) c.in_ok-added.ensures.added ∙ holds name ∙ ap (has_name earlier) copied,
-      subst (λ (n : List ℕ). Holds c.insert.new.self (n ∷ earlier)) copied (holds_more c.args.names.now c.insert.new.self name earlier holds c.in_ok-added.ensures.updates))
+    let copied : name ≡ c.args.name.now = c.in_ok-clone.ensures.cases in (
+      was_there c.in_ok-added.added (contains (slice_cmp nat_cmp) c.args.names.now name) c.in_ok-added.ensures.added ∙ holds name ∙ ap (has_name earlier) copied,
+      subst (λ (n : List ℕ). Holds c.insert.new.self (n ∷ earlier)) copied (holds_more c.args.names.now c.insert.new.self name earlier holds c.in_ok-added.ensures.updates),
+    )

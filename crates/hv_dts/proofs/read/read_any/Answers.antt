@@ -7,6 +7,7 @@ use Rattle.hv_dts.specs.Linking.{AreAsked, AreLinked}
 use Rattle.hv_dts.specs.Maps.{links_in}
 use Rattle.hv_dts.specs.declared.contents.Entry.{Entry}
 use Rattle.hv_dts.proofs.Standing.{stands}
+use Rattle.hv_dts.proofs.Rooted.{rooted}
 use Rattle.hv_dts.proofs.read.read_any.Goals as goal
 
 pub returns-clause-found : goal.returns-clause-found
@@ -18,10 +19,10 @@ returns-clause-found c =
     let paths = names_of (flat_map path_references entries) in
     let used = used_numbers entries in
     let asked : AreAsked c.in_ok-asked.asked cells paths used =
-      subst (λ (es : List Entry). AreAsked c.in_ok-asked.asked (asked_labels es) (names_of (flat_map path_references es)) (used_numbers es)) c.as_slice.ensures c.in_ok-asked.ensures.asked in
+    subst (λ (es : List Entry). AreAsked c.in_ok-asked.asked (asked_labels es) (names_of (flat_map path_references es)) (used_numbers es)) c.as_slice.ensures c.in_ok-asked.ensures.asked in
     let linked : AreLinked cells paths used linking entries = subst (AreLinked cells paths used linking) c.as_slice-2.ensures (c.in_ok-linking.ensures cells paths used asked) in
     let root : c.in_ok-root.root ≡ root_tree (links_in linking.links) it.syntax linking.given.items =
-      c.in_ok-root.ensures it.syntax (c.as_slice-4.ensures ∙ it.is) ∙ ap (root_tree (links_in linking.links) it.syntax) c.as_slice-3.ensures.value in
+    c.in_ok-root.ensures it.syntax (c.as_slice-4.ensures ∙ it.is) ∙ ap (root_tree (links_in linking.links) it.syntax) c.as_slice-3.ensures.value in
     record {
       syntax = it.syntax;
       written = it.written;

@@ -1,6 +1,5 @@
 use Rattle.std.proofs.Common.{◌≡◌, ◌++◌, drop}
 use Rattle.std.specs.Prelude.{map}
-
 use Rattle.hv_dts.proofs.references.push_all.Given as goal
 
 abbrev pub invariant-loop-name : goal.invariant-loop-name

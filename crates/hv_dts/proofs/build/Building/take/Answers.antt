@@ -15,7 +15,7 @@ returns-in_ok-node-in-Some c = λ it builds.
     let new : Building = record { hand = record hand { children = c.push-in-Some.new.self }; around = c.pop.new.self; given = old.given } in
     on_ok c.push-in-Some.result _ _
     (λ pushed. closes (links_in c.args.links.now) old new it c.args.entry.now c.in-Some.outer c.in_ok-node-in-Some.node c.in-Close.is builds c.in-Some.ensures
-      (c.in_ok-node-in-Some.ensures ∙ ap frame_tree c.replace-inner.ensures.value)
-      (ap (λ (ns : List Node). record hand { children = ns }) pushed ∙ ap (λ (f : Frame). record f { children = f.children ++ c.in_ok-node-in-Some.node ∷ [] }) c.replace-inner.ensures.after)
-      refl)
+    (c.in_ok-node-in-Some.ensures ∙ ap frame_tree c.replace-inner.ensures.value)
+    (ap (λ (ns : List Node). record hand { children = ns }) pushed ∙ ap (λ (f : Frame). record f { children = f.children ++ c.in_ok-node-in-Some.node ∷ [] }) c.replace-inner.ensures.after)
+    refl)
     c.push-in-Some.ensures

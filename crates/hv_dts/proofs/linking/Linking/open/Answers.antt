@@ -21,13 +21,13 @@ returns c = λ cells paths used nodes asked leads.
     let copied : c.in_ok-clone.field-0 ≡ name = c.in_ok-clone.ensures.cases in
     let around : c.push.new.self ≡ old.around ++ name ∷ [] = c.in_ok-push.ensures ∙ ap (λ (n : List ℕ). old.around ++ n ∷ []) copied in
     let number : c.unwrap_or-number.result ≡ number_then (site, given) =
-      c.unwrap_or-number.ensures ∙ ap (λ (o : Option ℕ). unwrap_or o 0) (c.or.ensures ∙ ap (λ (o : Option ℕ). option_or o given) c.in_ok-own.ensures) in
+    c.unwrap_or-number.ensures ∙ ap (λ (o : Option ℕ). unwrap_or o 0) (c.or.ensures ∙ ap (λ (o : Option ℕ). option_or o given) c.in_ok-own.ensures) in
     let path : names_path c.as_slice.result.now ≡ site.path = ap names_path (c.as_slice.ensures ∙ around) in
     record {
       given = given;
       gives = c.in_ok-given.ensures cells used site asked.in_cells asked.numbers refl (sym c.in_ok-own.ensures);
       leads = leads_more paths old new nodes site given c.unwrap_or-number.result leads c.in_ok-push-2.ensures.items number c.in_ok-note_labels.ensures.numbers
-        (λ other asks. c.in_ok-note_labels.ensures.paths paths asked.elsewhere other asks
+          (λ other asks. c.in_ok-note_labels.ensures.paths paths asked.elsewhere other asks
           ∙ ap (λ (p : List ℕ). option_or (get (slice_cmp nat_cmp) old.links.paths other) (some_if (any_label labels other) p)) path);
       around = around;
     }
