@@ -277,13 +277,13 @@ good_node links name props given nodes more well apart free kids kids_apart =
     let prop_name : Prop → List ℕ = λ prop. prop.name in
     record {
       props = subst (All (λ (prop : Prop). IsPropName prop.name)) (sym (props_is x))
-        (all_from (λ (prop : Prop). IsPropName prop.name) x.props (mapped prop_name IsPropName x.props (subst (AllByRecursion IsPropName) (sym names) good)));
+          (all_from (λ (prop : Prop). IsPropName prop.name) x.props (mapped prop_name IsPropName x.props (subst (AllByRecursion IsPropName) (sym names) good)));
       props_apart = subst (AllPairs (λ (one other : Prop). one.name ≢ other.name)) (sym (props_is x))
-        (pairs_from prop_name x.props (subst Distinct (sym names) (given_apart given props free apart)));
+          (pairs_from prop_name x.props (subst Distinct (sym names) (given_apart given props free apart)));
       children = subst (All (λ (child : Node). IsNodeName (name_of child))) (sym (children_is x))
-        (all_from (λ (child : Node). IsNodeName (name_of child)) x.children (mapped name_of IsNodeName x.children (subst (AllByRecursion IsNodeName) (sym children) good_children)));
+          (all_from (λ (child : Node). IsNodeName (name_of child)) x.children (mapped name_of IsNodeName x.children (subst (AllByRecursion IsNodeName) (sym children) good_children)));
       children_apart = subst (AllPairs (λ (one other : Node). name_of one ≢ name_of other)) (sym (children_is x))
-        (pairs_from name_of x.children (subst Distinct (sym children) kids_apart));
+          (pairs_from name_of x.children (subst Distinct (sym children) kids_apart));
     }
 
 abbrev pub AllFree : NodesSyntax → List (Option ℕ) → Type 0

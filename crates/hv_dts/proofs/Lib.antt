@@ -14,3 +14,4 @@ pub mod Standing
 pub mod Unique
 pub mod GoodNames
 pub mod Rooted
+pub mod Kept

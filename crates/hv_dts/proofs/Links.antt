@@ -3,14 +3,14 @@ use Rattle.std.proofs.Common.{◌≡◌, ℕ, ◌+◌, ◌<◌, ◌≤◌, Bool,
 use Rattle.std.specs.Prelude.{Option, Some, None, map, not, is_some, ◌&&◌, ◌||◌, nat_eq, MatchOption}
 use Rattle.std.specs.Ordering.{nat_cmp, is_eq}
 use Rattle.std.specs.Option.{option_map, option_or, unwrap_or}
-use Rattle.std.specs.List.{list_any, find}
+use Rattle.std.specs.List.{list_any, find, AllByRecursion}
 use Rattle.std.specs.Cmp.Lexicographic.{slice_cmp, pointwise, texts_ties, bytes_decides}
 use Rattle.std.specs.BTreeMap.{BTreeMap, get}
 use Rattle.std.proofs.lemmas.List.{drop_more, drop_all, append-nil, map-append}
 use Rattle.std.proofs.lemmas.List.Folds.{find-append}
 use Rattle.hv_dts.specs.Rules.{has_name}
 use Rattle.hv_dts.specs.Resolved.{Site, is_needy, IsLeastFree, AreGiven, no_nodes, gets_number, gets_none, has_label, Numbered, number_then}
-use Rattle.hv_dts.specs.Linking.{some_if, names_path, without_last, following_phandle, site_here, sites_from, Gives, a_number, nothing, Leads, Opened, Stays, Steps, AreLinked}
+use Rattle.hv_dts.specs.Linking.{IsSmall, some_if, names_path, without_last, following_phandle, site_here, sites_from, Gives, a_number, nothing, Leads, Opened, Stays, Steps, AreLinked}
 use Rattle.hv_dts.specs.declared.contents.Named.{Named}
 use Rattle.hv_dts.specs.declared.contents.Entry.{Entry}
 use Rattle.hv_dts.specs.declared.contents.Entry.TheVariants as entry
@@ -118,6 +118,7 @@ pub record Linked (cells wanted : List (List ℕ)) (used : List ℕ) (linking : 
   pub nodes : List Numbered
   pub leads : Leads wanted linking nodes
   pub sites : map (λ numbered. numbered.0) nodes ++ sites_from linking.around left ≡ sites_from [] entries
+  pub small : AllByRecursion (λ (numbered : Numbered). IsSmall numbered.1) nodes
   pub fresh : (more : List Site) (given : List (Option ℕ)) → AreGiven cells used linking.next more given
       → AreGiven cells used 1 (map (λ numbered. numbered.0) nodes ++ more) (map (λ numbered. numbered.1) nodes ++ given)
 
@@ -127,10 +128,19 @@ gives_more cells used site from next one more given (a_number number asks least 
 gives_more cells used site from next one more given (nothing not_asked is then) rest =
     subst (λ (o : Option ℕ). AreGiven cells used from (site ∷ more) (o ∷ given)) (sym is) (gets_none site not_asked (subst (λ (n : ℕ). AreGiven cells used n more given) then rest))
 
+small_push : (nodes : List Numbered) (one : Numbered) → AllByRecursion (λ (numbered : Numbered). IsSmall numbered.1) nodes → IsSmall one.1 → AllByRecursion (λ (numbered : Numbered). IsSmall numbered.1) (nodes ++ one ∷ [])
+small_push [] one all small = (small, tt)
+small_push (n ∷ nodes) one all small = (all.0, small_push nodes one all.1 small)
+
+small_given : (nodes : List Numbered) → AllByRecursion (λ (numbered : Numbered). IsSmall numbered.1) nodes → AllByRecursion IsSmall (map (λ (numbered : Numbered). numbered.1) nodes)
+small_given [] all = tt
+small_given (n ∷ nodes) all = (all.0, small_given nodes all.1)
+
 linked_step : (cells wanted : List (List ℕ)) (used : List ℕ) (old new : Linking) (one : Entry) (rest entries : List Entry) (it : Linked cells wanted used old (one ∷ rest) entries) → Steps cells wanted used old new it.nodes one rest → Linked cells wanted used new rest entries
 linked_step cells wanted used old new (entry.Property labels name values) rest entries it step = record {
   nodes = it.nodes;
   leads = step.leads;
+  small = it.small;
   sites = ap (λ (a : List (List ℕ)). map (λ (numbered : Numbered). numbered.0) it.nodes ++ sites_from a rest) step.around ∙ it.sites;
   fresh = λ more given are. it.fresh more given (subst (λ (n : ℕ). AreGiven cells used n more given) step.next are);
 }
@@ -142,6 +152,7 @@ linked_step cells wanted used old new (entry.Open labels name) rest entries it s
     record {
       nodes = it.nodes ++ one ∷ [];
       leads = step.leads;
+      small = small_push it.nodes one it.small step.small;
       sites = ap (λ (a : List (List ℕ)). map first (it.nodes ++ one ∷ []) ++ sites_from a rest) step.around
           ∙ ap (λ (ss : List Site). ss ++ sites_from (old.around ++ name.name ∷ []) rest) (map-append first it.nodes (one ∷ []))
           ∙ append_assoc (map first it.nodes) (site ∷ []) (sites_from (old.around ++ name.name ∷ []) rest) ∙ it.sites;
@@ -157,6 +168,7 @@ linked_step cells wanted used old new (entry.Open labels name) rest entries it s
 linked_step cells wanted used old new entry.Close rest entries it step = record {
   nodes = it.nodes;
   leads = step.leads;
+  small = it.small;
   sites = ap (λ (a : List (List ℕ)). map (λ (numbered : Numbered). numbered.0) it.nodes ++ sites_from a rest) step.around ∙ it.sites;
   fresh = λ more given are. it.fresh more given (subst (λ (n : ℕ). AreGiven cells used n more given) step.next are);
 }
@@ -177,6 +189,7 @@ linked_all cells wanted used linking entries i over it =
       nodes = it.nodes;
       sites = sym (append-nil (map first it.nodes)) ∙ ap (λ (es : List Entry). map first it.nodes ++ sites_from linking.around es) (sym (drop_all i entries over)) ∙ it.sites;
       leads = it.leads;
+      small = subst (AllByRecursion IsSmall) (sym it.leads.given) (small_given it.nodes it.small);
       given = subst (λ (ss : List Site). AreGiven cells used 1 ss (map second it.nodes)) (append-nil (map first it.nodes))
           (subst (AreGiven cells used 1 (map first it.nodes ++ [])) (append-nil (map second it.nodes)) (it.fresh [] [] no_nodes));
     }

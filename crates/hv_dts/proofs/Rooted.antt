@@ -181,7 +181,7 @@ stage_step prop props tail earlier true (Some n) named numbered bad it = record 
   after = it.after;
   bad = it.bad;
   folded = ap (λ (b : Bool). fold numbers_after (cond b (with_number earlier (phandle_number prop.values)) earlier) (props_entries props tail)) named
-    ∙ ap (λ (o : Option ℕ). fold numbers_after (with_number earlier o) (props_entries props tail)) numbered ∙ it.folded;
+      ∙ ap (λ (o : Option ℕ). fold numbers_after (with_number earlier o) (props_entries props tail)) numbered ∙ it.folded;
   keeps = λ x has. it.keeps x (has_more n earlier x has);
   own = one_there n (ap (λ (b : Bool). own_of b prop props) named ∙ numbered) (not_there earlier n prop.name.place bad) (it.keeps n (has_here n earlier));
 }
@@ -299,7 +299,7 @@ module _ (asked : List (List ℕ)) (used : List ℕ) (links : Links) where
     low = omega arith;
     fresh = record { grows = old_grows used earlier after from from keeps (omega arith); fresh = tt; kept = tt; apart = tt };
     phandle = subst (λ (o : Option ℕ). AreNumbers (cons_option (value_among (codes "phandle") (map (prop_tree links) props ++ number_prop o)) []) []) (sym first)
-      (subst (λ (o : Option Prop). AreNumbers (cons_option (option_map (λ (p : Prop). p.value) o) []) []) (sym (skipped links props [] all)) tt);
+        (subst (λ (o : Option Prop). AreNumbers (cons_option (option_map (λ (p : Prop). p.value) o) []) []) (sym (skipped links props [] all)) tt);
     rest = rest;
     free = subst (λ (o : Option ℕ). Free o props) (sym first) tt;
   }
@@ -317,7 +317,7 @@ module _ (asked : List (List ℕ)) (used : List ℕ) (links : Links) where
           apart = (tt, tt);
         };
         phandle = subst (λ (o : Option ℕ). AreNumbers (cons_option (value_among (codes "phandle") (map (prop_tree links) props ++ number_prop o)) []) (n ∷ [])) (sym first)
-          (subst (λ (o : Option Prop). AreNumbers (cons_option (option_map (λ (p : Prop). p.value) o) []) (n ∷ [])) (sym (skipped links props (number_prop (Some n)) all)) (cell_fact n some high, tt));
+            (subst (λ (o : Option Prop). AreNumbers (cons_option (option_map (λ (p : Prop). p.value) o) []) (n ∷ [])) (sym (skipped links props (number_prop (Some n)) all)) (cell_fact n some high, tt));
         rest = rest;
         free = subst (λ (o : Option ℕ). Free o props) (sym first) all;
       }
@@ -380,7 +380,7 @@ nodes_stage asked used links (node labels name props children rest) above earlie
     let uses : (x : ℕ) → Has p.after x → Has used x = λ x has. subst (λ (ns : List ℕ). Has ns x) all (fold_keeps (nodes_entries children after) p.after x has) in
     let sites = nodes_sites path children ++ (nodes_sites above rest ++ more) in
     let aligned : AreGiven asked used from (site ∷ sites) given =
-      subst (λ (ss : List Site). AreGiven asked used from (site ∷ ss) given) (append_assoc (nodes_sites path children) (nodes_sites above rest) more) are in
+    subst (λ (ss : List Site). AreGiven asked used from (site ∷ ss) given) (append_assoc (nodes_sites path children) (nodes_sites above rest) more) are in
     let one = node_stage asked used links earlier p.after from props site sites given refl low small p.keeps uses p.own (head_of asked used from site sites given aligned) in
     let two = nodes_stage asked used links children path p.after one.next next_given (nodes_sites above rest ++ more) after p.bad all one.rest (small_next given small) (omega (arith, one.low)) in
     let three = nodes_stage asked used links rest above two.after two.next (given_behind children next_given) more tail two.bad two.folded two.rest two.small (omega (arith, one.low, two.low)) in
@@ -390,19 +390,19 @@ nodes_stage asked used links (node labels name props children rest) above earlie
     let tree : nodes_of (roll-Node x) ≡ roll-Node x ∷ below = nodes_out (roll-Node x) ∙ ap (λ (ns : List Node). roll-Node x ∷ flat_map nodes_of ns) (children_is x) in
     let here : prop_value (roll-Node x) (codes "phandle") ≡ value_among (codes "phandle") x.props = ap (value_among (codes "phandle")) (props_is x) in
     let listed : phandles_of (nodes_of (roll-Node x) ++ behind) ≡ cons_option (value_among (codes "phandle") x.props) [] ++ (phandles_of below ++ phandles_of behind) =
-      phandles_join (nodes_of (roll-Node x)) behind ∙ ap (λ (ns : List Node). phandles_of ns ++ phandles_of behind) tree
-      ∙ ap (λ (o : Option (List ℕ)). cons_option o (phandles_of below) ++ phandles_of behind) here
-      ∙ ap (λ (bs : List (List ℕ)). bs ++ phandles_of behind) (sym (cons_join (value_among (codes "phandle") x.props) [] (phandles_of below)))
-      ∙ append_assoc (cons_option (value_among (codes "phandle") x.props) []) (phandles_of below) (phandles_of behind) in
+    phandles_join (nodes_of (roll-Node x)) behind ∙ ap (λ (ns : List Node). phandles_of ns ++ phandles_of behind) tree
+    ∙ ap (λ (o : Option (List ℕ)). cons_option o (phandles_of below) ++ phandles_of behind) here
+    ∙ ap (λ (bs : List (List ℕ)). bs ++ phandles_of behind) (sym (cons_join (value_among (codes "phandle") x.props) [] (phandles_of below)))
+    ∙ append_assoc (cons_option (value_among (codes "phandle") x.props) []) (phandles_of below) (phandles_of behind) in
     record {
       numbers = one.numbers ++ (two.numbers ++ three.numbers);
       after = three.after;
       next = three.next;
       low = omega (arith, one.low, two.low, three.low);
       fresh = fresh_join (Old used earlier from) (Old used p.after one.next) (Old used three.after three.next) one.numbers (two.numbers ++ three.numbers) one.fresh
-        (fresh_join (Old used p.after one.next) (Old used two.after two.next) (Old used three.after three.next) two.numbers three.numbers two.fresh three.fresh);
+          (fresh_join (Old used p.after one.next) (Old used two.after two.next) (Old used three.after three.next) two.numbers three.numbers two.fresh three.fresh);
       phandles = subst (λ (bs : List (List ℕ)). AreNumbers bs (one.numbers ++ (two.numbers ++ three.numbers))) (sym listed)
-        (numbers_join (cons_option (value_among (codes "phandle") x.props) []) (phandles_of below ++ phandles_of behind) one.numbers (two.numbers ++ three.numbers) one.phandle
+          (numbers_join (cons_option (value_among (codes "phandle") x.props) []) (phandles_of below ++ phandles_of behind) one.numbers (two.numbers ++ three.numbers) one.phandle
           (numbers_join (phandles_of below) (phandles_of behind) two.numbers three.numbers two.phandles three.phandles));
       bad = three.bad;
       folded = three.folded;
@@ -471,17 +471,17 @@ rooted asked links source given well kept are small =
     let below = flat_map nodes_of (nodes_trees links source.nodes given) in
     let tree : nodes_of (roll-Node x) ≡ roll-Node x ∷ below = nodes_out (roll-Node x) ∙ ap (λ (ns : List Node). roll-Node x ∷ flat_map nodes_of ns) (children_is x) in
     let here : prop_value (roll-Node x) (codes "phandle") ≡ value_among (codes "phandle") (map (prop_tree links) source.props ++ []) =
-      ap (value_among (codes "phandle")) (props_is x ∙ sym (append-nil (map (prop_tree links) source.props))) in
+    ap (value_among (codes "phandle")) (props_is x ∙ sym (append-nil (map (prop_tree links) source.props))) in
     let listed : phandles_of (nodes_of (roll-Node x)) ≡ cons_option (value_among (codes "phandle") (map (prop_tree links) source.props ++ [])) [] ++ phandles_of below =
-      ap phandles_of tree ∙ ap (λ (o : Option (List ℕ)). cons_option o (phandles_of below)) here ∙ sym (cons_join (value_among (codes "phandle") (map (prop_tree links) source.props ++ [])) [] (phandles_of below)) in
+    ap phandles_of tree ∙ ap (λ (o : Option (List ℕ)). cons_option o (phandles_of below)) here ∙ sym (cons_join (value_among (codes "phandle") (map (prop_tree links) source.props ++ [])) [] (phandles_of below)) in
     let numbers = one.numbers ++ two.numbers in
     let numbered : AreNumbers (phandles_of (nodes_of (roll-Node x))) numbers =
-      subst (λ (bs : List (List ℕ)). AreNumbers bs numbers) (sym listed) (numbers_join (cons_option (value_among (codes "phandle") (map (prop_tree links) source.props ++ [])) []) (phandles_of below) one.numbers two.numbers one.phandle two.phandles) in
+    subst (λ (bs : List (List ℕ)). AreNumbers bs numbers) (sym listed) (numbers_join (cons_option (value_among (codes "phandle") (map (prop_tree links) source.props ++ [])) []) (phandles_of below) one.numbers two.numbers one.phandle two.phandles) in
     let fresh = fresh_join (Old used [] 1) (Old used p.after one.next) (Old used two.after two.next) one.numbers two.numbers one.fresh two.fresh in
     let within = props_well source.props (nodes_entries source.nodes []) well in
     let inner = nodes_well source.nodes [] within.1 in
     let good_root : HasGoodNames (roll-Node x) = subst (λ (ps : List Prop). HasGoodNames (roll-Node (record { name = []; props = ps; children = nodes_trees links source.nodes given }))) (append-nil (map (prop_tree links) source.props))
-      (good_node links [] source.props None source.nodes given within.0 (props_new [] source.props names.0).0 tt inner.0 (nodes_new [] source.nodes names.1).0) in
+    (good_node links [] source.props None source.nodes given within.0 (props_new [] source.props names.0).0 tt inner.0 (nodes_new [] source.nodes names.1).0) in
     let good = nodes_good links source.nodes given [] [] within.1 names.1 two.free in
     record {
       unnamed = ap (λ y. y.name) (out-roll-Node x);

@@ -122,6 +122,15 @@ zip_parts : (nodes : List Numbered) → zip (map (λ numbered. numbered.0) nodes
 zip_parts [] = refl
 zip_parts (n ∷ nodes) = λ i. n ∷ zip_parts nodes i
 
+-- what the nodes of a source were given
+pub given_are : (source : SourceSyntax) (entries : List Entry) (linking : Linking) → entries ≡ entries_of source → AreLinked (asked_labels entries) (names_of (flat_map path_references entries)) (used_numbers entries) linking entries
+    → AreGiven (asked_labels (entries_of source)) (used_numbers (entries_of source)) 1 (nodes_sites [] source.nodes) linking.given.items
+given_are source entries linking are linked =
+    let sites : map (λ (numbered : Numbered). numbered.0) linked.nodes ≡ nodes_sites [] source.nodes = linked.sites ∙ ap (sites_from []) are ∙ sites_are source in
+    subst (λ (ss : List Site). AreGiven (asked_labels (entries_of source)) (used_numbers (entries_of source)) 1 ss linking.given.items) sites
+    (subst (AreGiven (asked_labels (entries_of source)) (used_numbers (entries_of source)) 1 (map (λ (numbered : Numbered). numbered.0) linked.nodes)) (sym linked.leads.given)
+    (subst (λ (es : List Entry). AreGiven (asked_labels es) (used_numbers es) 1 (map (λ (numbered : Numbered). numbered.0) linked.nodes) (map (λ (numbered : Numbered). numbered.1) linked.nodes)) are linked.given))
+
 -- so what was built is the tree of the source
 pub stands : (source : SourceSyntax) (entries : List Entry) (linking : Linking) (root : Node) → entries ≡ entries_of source
     → AreLinked (asked_labels entries) (names_of (flat_map path_references entries)) (used_numbers entries) linking entries → root ≡ root_tree (links_in linking.links) source linking.given.items → IsTreeOf source root
@@ -146,8 +155,6 @@ stands source entries linking root are linked is =
     ∙ source_on (links_of linked.nodes) source linking.given.items in
     record {
       given = linking.given.items;
-      least_free = subst (λ (ss : List Site). AreGiven (asked_labels (entries_of source)) (used_numbers (entries_of source)) 1 ss linking.given.items) sites
-          (subst (AreGiven (asked_labels (entries_of source)) (used_numbers (entries_of source)) 1 (map (λ (numbered : Numbered). numbered.0) linked.nodes)) given
-          (subst (λ (es : List Entry). AreGiven (asked_labels es) (used_numbers es) 1 (map (λ (numbered : Numbered). numbered.0) linked.nodes) (map (λ (numbered : Numbered). numbered.1) linked.nodes)) are linked.given));
+      least_free = given_are source entries linking are linked;
       is = is ∙ built ∙ ap (λ (l : Links). root_tree l source linking.given.items) known;
     }

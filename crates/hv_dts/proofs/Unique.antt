@@ -272,10 +272,6 @@ not_refused text tree (refusal.NoLabel offset) is it =
     let same = ap broken_rule (written_same text it.syntax is.syntax it.written is.written) in cc (same, it.broken, is.keeps)
 not_refused text tree (refusal.Memory e) is it = tt
 
-pub reads_only : (text : List ℕ) (result : Result Node DtsRefusal) → IfOk result (λ root. IsSourceOf text root) → IfErr result (λ refused. IsRefusedAs text refused) → (root : Node) → IsSourceOf text root → IsOnly result root
-reads_only text (Ok found) ok err root is = tree_same text found root ok is
-reads_only text (Err refused) ok err root is = not_refused text root refused is err
-
 -- the refusal of a rule refuses the text
 pub rule_refused : (text : List ℕ) (entries : List Entry) (refused : DtsRefusal) → HasEntries text entries → ((source : SourceSyntax) → entries ≡ entries_of source → IsRuleRefusal source refused) → IsRefusedAs text refused
 rule_refused text entries (refusal.BadToken offset) it broken = absurd (broken it.syntax it.is)

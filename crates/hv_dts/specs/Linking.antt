@@ -1,8 +1,8 @@
 -- What is known of labels and numbers before an entry of a source.
-use Rattle.std.specs.Prelude.{◌≡◌, ℕ, ◌+◌, List, [], ◌∷◌, ◌++◌, map, Bool, true, false, ◌==◌, if◌then◌else◌, Option, Some, None}
+use Rattle.std.specs.Prelude.{◌≡◌, ℕ, ◌+◌, List, [], ◌∷◌, ◌++◌, map, Bool, true, false, ◌==◌, if◌then◌else◌, Option, Some, None, IfSome, ◌<◌}
 use Rattle.std.specs.Ordering.{nat_cmp}
 use Rattle.std.specs.Option.{option_map, option_or}
-use Rattle.std.specs.List.{find, flat_map}
+use Rattle.std.specs.List.{find, flat_map, AllByRecursion}
 use Rattle.std.specs.Cmp.Lexicographic.{slice_cmp}
 use Rattle.std.specs.BTreeMap.{get}
 use Rattle.hv_dts.specs.Bytes.{is_phandle_name, phandle_number}
@@ -48,6 +48,10 @@ sites_from around (entry.Property labels name values ∷ entries) = sites_from a
 sites_from around (entry.Open labels name ∷ entries) = site_here around labels name entries ∷ sites_from (around ++ name.name ∷ []) entries
 sites_from around (entry.Close ∷ entries) = sites_from (without_last around) entries
 
+-- what is given is a phandle
+abbrev pub IsSmall : Option ℕ → Type 0
+IsSmall given = IfSome given (λ number. number < 0xffff_ffff)
+
 -- what a node is given, and from where on numbers are not given then
 pub data Gives (asked : List (List ℕ)) (used : List ℕ) (site : Site) (from : ℕ) (given : Option ℕ) (next : ℕ) : Type 0 where
   a_number : (number : ℕ) → is_needy asked site ≡ true → IsLeastFree used from number → given ≡ Some number → next ≡ number + 1 → Gives asked used site from given next
@@ -70,6 +74,7 @@ pub record Leads (wanted : List (List ℕ)) (linking : Linking) (nodes : List Nu
 pub record Opened (cells wanted : List (List ℕ)) (used : List ℕ) (old new : Linking) (nodes : List Numbered) (site : Site) (name : List ℕ) : Type 0 where
   pub given : Option ℕ
   pub gives : Gives cells used site old.next given new.next
+  pub small : IsSmall given
   pub leads : Leads wanted new (nodes ++ (site, given) ∷ [])
   pub around : new.around ≡ old.around ++ name ∷ []
 
@@ -91,3 +96,4 @@ pub record AreLinked (cells wanted : List (List ℕ)) (used : List ℕ) (linking
   pub sites : map (λ numbered. numbered.0) nodes ≡ sites_from [] entries
   pub leads : Leads wanted linking nodes
   pub given : AreGiven cells used 1 (map (λ numbered. numbered.0) nodes) (map (λ numbered. numbered.1) nodes)
+  pub small : AllByRecursion IsSmall linking.given.items

@@ -27,6 +27,6 @@ mod values;
 mod word;
 
 pub use print::print_dts;
-pub use read::read_root;
+pub use read::read_dts;
 pub use refusal::DtsRefusal;
 pub use syntax::{SyntaxRefusal, source_tokens};

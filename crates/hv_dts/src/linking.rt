@@ -8,7 +8,7 @@ ghost use Rattle.std.specs.BTreeMap.{get};
 ghost use Rattle.hv_dts.specs.Rules.{has_name};
 ghost use Rattle.hv_dts.specs.Resolved.{Site, Numbered, IsLeastFree};
 ghost use Rattle.hv_dts.specs.Sets.{Holds, HoldsNumbers};
-ghost use Rattle.hv_dts.specs.Linking.{some_if, names_path, following_phandle, site_here, Gives, Leads, Opened, Steps, AreLinked, AreAsked};
+ghost use Rattle.hv_dts.specs.Linking.{IsSmall, some_if, names_path, following_phandle, site_here, Gives, Leads, Opened, Steps, AreLinked, AreAsked};
 
 use crate::contents::{Entry, Named};
 use crate::values::{LinkMaps, is_phandle_name, phandle_number};
@@ -151,7 +151,8 @@ fn give(
     labels: &[Named],
     next: u32,
 ) -> Result<(Option<u32>, u32), AllocError>
-    ensures { (cells : List (List ℕ)) (used : List ℕ) (site : Site) → Holds asked.now.cells cells → HoldsNumbers asked.now.used used
+    ensures small { IfOk result (λ found. IsSmall found.0) }
+    ensures gives { (cells : List (List ℕ)) (used : List ℕ) (site : Site) → Holds asked.now.cells cells → HoldsNumbers asked.now.used used
         → site.labels ≡ labels.now → site.own ≡ own → IfOk result (λ found. Gives cells used site next found.0 found.1) }
 {
     if own.is_some() {

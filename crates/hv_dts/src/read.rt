@@ -2,6 +2,7 @@
 ghost use Rattle.std.specs.Prelude.{◌≡◌, List, None, map, IfOk, IfErr};
 ghost use Rattle.std.specs.List.{flat_map};
 ghost use Rattle.hv_dtree.specs.declared.node.Node.{Node};
+ghost use Rattle.hv_dtree.specs.Nodes.{IsRoot};
 ghost use Rattle.hv_dts.specs.Contents.{SourceSyntax, entries_of};
 ghost use Rattle.hv_dts.specs.Rules.{least, twice_named, unlabelled_references, cell_references, path_references, broken_rule, names_of};
 ghost use Rattle.hv_dts.specs.Resolved.{asked_labels, used_numbers};
@@ -17,7 +18,7 @@ use crate::names::{lesser, repeated_label};
 use crate::phandles::{Phandles, read_phandles};
 use crate::references::{cell_references, name_set, node_labels, path_references, unlabelled};
 use crate::refusal::DtsRefusal;
-use hv_dtree::Node;
+use hv_dtree::{Node, Tree};
 use std::alloc::{AllocError, Global};
 
 fn twice_named(alloc: Global, entries: &[Entry]) -> Result<Option<usize>, AllocError>
@@ -72,6 +73,7 @@ fn judged(alloc: Global, entries: &[Entry]) -> Result<Asked, DtsRefusal>
 
 fn read_any(alloc: Global, text: &[u8]) -> Result<Node, DtsRefusal>
     ensures found { IfOk result (λ root. IsSourceOf text.now root) }
+    ensures rules { IfOk result (λ root. IsRoot root) }
     ensures refused { IfErr result (λ refusal. IsRefusedAs text.now refusal) }
 {
     let entries = read_entries(alloc, text)?;
@@ -86,16 +88,19 @@ fn read_any(alloc: Global, text: &[u8]) -> Result<Node, DtsRefusal>
     Ok(root)
 }
 
-/// The root of the tree that a source stands for.
-pub fn read_root(alloc: Global, text: &[u8]) -> Result<Node, DtsRefusal>
+/// The tree that a source stands for.
+pub fn read_dts(alloc: Global, text: &[u8]) -> Result<Tree, DtsRefusal>
     // What is read is a source, and stands for this tree.
-    ensures found { IfOk result (λ root. IsSourceOf text.now root) }
+    ensures found { IfOk result (λ tree. IsSourceOf text.now tree) }
 
     // A source is read, unless memory runs out.
-    ensures only { (root : Node) → IsSourceOf text.now root → IsOnly result root }
+    ensures only { (tree : Node) → IsSourceOf text.now tree → IsOnly result tree }
 
     // A refusal carries its offset.
     ensures refused { IfErr result (λ refusal. IsRefusedAs text.now refusal) }
 {
-    read_any(alloc, text)
+    match read_any(alloc, text) {
+        Ok(root) => Ok(Tree::of_root(root)),
+        Err(refusal) => Err(refusal),
+    }
 }

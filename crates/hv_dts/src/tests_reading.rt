@@ -1,13 +1,12 @@
 //! Sources with their verdicts, worked out by hand from the grammar and the rules.
 use super::*;
-use crate::print::print_root;
 use std::alloc::Global;
 use std::process::Abort;
 use std::test::Fail;
 
 // What a reader answers: 0, or a number for the kind of refusal, and its offset.
 fn answer(alloc: Global, text: &[u8]) -> (u8, usize) {
-    match read_root(alloc, text) {
+    match read_dts(alloc, text) {
         Ok(_) => (0, 0),
         Err(DtsRefusal::BadToken(at)) => (1, at),
         Err(DtsRefusal::Unexpected(at)) => (2, at),
@@ -221,8 +220,8 @@ fn refuses_references_without_a_label(rt: HostRuntime) {
 }
 
 fn printed(alloc: Global, text: &[u8]) -> Result<Vec<u8>, Fail> {
-    let root = read_root(alloc, text)?;
-    let shown = print_root(alloc, &root)?;
+    let root = read_dts(alloc, text)?;
+    let shown = print_dts(alloc, &root)?;
     Ok(Vec::from_slice(alloc, shown.as_slice())?)
 }
 

@@ -9,6 +9,7 @@ pub loop-at-init : goal.loop-at-init
 loop-at-init c = λ cells paths used asked. record {
   nodes = [];
   leads = c.new-linking.ensures.leads paths;
+  small = tt;
   sites = ap (λ (a : List (List ℕ)). sites_from a c.args.entries.now) c.new-linking.ensures.around;
   fresh = λ more given are. subst (λ (n : ℕ). AreGiven cells used n more given) c.new-linking.ensures.next are;
 }

@@ -25,7 +25,8 @@ returns c = λ cells paths used nodes asked leads.
     let path : names_path c.as_slice.result.now ≡ site.path = ap names_path (c.as_slice.ensures ∙ around) in
     record {
       given = given;
-      gives = c.in_ok-given.ensures cells used site asked.in_cells asked.numbers refl (sym c.in_ok-own.ensures);
+      gives = c.in_ok-given.ensures.gives cells used site asked.in_cells asked.numbers refl (sym c.in_ok-own.ensures);
+      small = c.in_ok-given.ensures.small;
       leads = leads_more paths old new nodes site given c.unwrap_or-number.result leads c.in_ok-push-2.ensures.items number c.in_ok-note_labels.ensures.numbers
           (λ other asks. c.in_ok-note_labels.ensures.paths paths asked.elsewhere other asks
           ∙ ap (λ (p : List ℕ). option_or (get (slice_cmp nat_cmp) old.links.paths other) (some_if (any_label labels other) p)) path);
