@@ -49,8 +49,9 @@ pub fn digits_value(digits: &[u8], radix: u32) -> Option<u32>
     Some(value)
 }
 
+/// The value of one or more digits of the radix, unless it passes 32 bits or another byte stands there.
 #[tactic(auto, unfolding(crate::specs::Values::cell_of))]
-fn cell_of(digits: &[u8], radix: u32) -> Option<u32>
+pub fn cell_of(digits: &[u8], radix: u32) -> Option<u32>
     requires low { 2 ≤ radix }
     requires high { radix ≤ 16 }
     ensures value { result ≡ cell_of radix digits.now }

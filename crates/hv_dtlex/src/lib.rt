@@ -16,7 +16,7 @@ mod tests;
 mod token;
 mod value_form;
 
-pub use digits::number_value;
+pub use digits::{cell_of, number_value};
 pub use next::next_token;
 pub use string::string_value;
 pub use token::{BadToken, Mode, Token, TokenKind};

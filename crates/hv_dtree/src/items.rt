@@ -1,8 +1,8 @@
 //! Members of a node.
-ghost use Rattle.std.specs.Prelude.{◌≡◌, ◌≢◌, [], ◌∷◌, ◌++◌, ◌↔◌, IsTrue, MatchOption};
+ghost use Rattle.std.specs.Prelude.{◌≡◌, ◌≢◌, [], ◌∷◌, ◌++◌, ◌↔◌, IsTrue, MatchOption, OnOk};
 ghost use Rattle.hv_dtree.specs.Lists.{SwapsFirst};
 
-use std::alloc::Global;
+use std::alloc::{AllocError, Global};
 use std::marker::Model;
 use std::mem;
 
@@ -76,5 +76,15 @@ impl<T> Items<T> {
         ensures { SwapsFirst self.old item result self.new }
     {
         mem::replace(&mut self.items[0], item)
+    }
+}
+
+impl<T: Drop> Items<T> {
+    /// Adds an item at the end, which want of memory gives up.
+    pub fn push(&mut self, item: T) -> Result<(), AllocError>
+        ensures { OnOk result (self.new ≡ self.old ++ item ∷ []) }
+    {
+        self.items.push(item)?;
+        Ok(())
     }
 }

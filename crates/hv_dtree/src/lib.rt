@@ -13,3 +13,4 @@ mod values;
 pub use items::Items;
 pub use node::{Node, Prop, PropRefusal};
 pub use tree::Tree;
+pub use values::big_endian;

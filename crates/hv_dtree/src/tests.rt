@@ -112,3 +112,13 @@ fn finds_the_root(rt: HostRuntime) -> Result<(), Fail> {
     assert!(rt; tree.find(&[bytes(alloc, b"a")?]).is_none());
     Ok(())
 }
+
+#[test]
+fn adds_items_at_the_end(rt: HostRuntime) -> Result<(), Fail> {
+    let mut items = Items::new(rt.alloc());
+    items.push(3)?;
+    items.push(5)?;
+    assert!(rt; items.as_slice() == [3, 5].as_slice());
+    assert!(rt; items.pop() == Some(5));
+    Ok(())
+}

@@ -63,7 +63,7 @@ impl Node {
 }
 
 /// The number that at most eight bytes hold.
-fn big_endian(bytes: &[u8]) -> u64
+pub fn big_endian(bytes: &[u8]) -> u64
     requires { length bytes.now ≤ 8 }
     ensures { result ≡ big_endian bytes.now }
 {

@@ -1,3 +1,17 @@
 pub mod Printing
 pub mod Reading
 pub mod Lexing
+pub mod Gathering
+pub mod Lifting
+pub mod Found
+pub mod Twice
+pub mod Nesting
+pub mod Labels
+pub mod Numbers
+pub mod Links
+pub mod Trees
+pub mod Standing
+pub mod Unique
+pub mod GoodNames
+pub mod Rooted
+pub mod Kept

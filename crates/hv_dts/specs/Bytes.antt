@@ -69,3 +69,18 @@ number_without (label ∷ labels) values = None
 
 abbrev pub phandle_number : List Value → Option ℕ
 phandle_number values = number_without (values_references values) values
+
+-- the references in the lists of cells of a value, and the others
+abbrev pub cell_lists_references : List Value → List Named
+cell_lists_references [] = []
+cell_lists_references (value.Cells cells ∷ values) = cells_references cells ++ cell_lists_references values
+cell_lists_references (value.Text bytes ∷ values) = cell_lists_references values
+cell_lists_references (value.Bytes bytes ∷ values) = cell_lists_references values
+cell_lists_references (value.Path label ∷ values) = cell_lists_references values
+
+abbrev pub paths_references : List Value → List Named
+paths_references [] = []
+paths_references (value.Cells cells ∷ values) = paths_references values
+paths_references (value.Text bytes ∷ values) = paths_references values
+paths_references (value.Bytes bytes ∷ values) = paths_references values
+paths_references (value.Path label ∷ values) = label ∷ paths_references values

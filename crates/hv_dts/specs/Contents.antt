@@ -1,9 +1,8 @@
 -- What a device tree source contains, as a tree, and the tokens that it is written with (Devicetree Specification 0.4, chapter 6).
-use Rattle.std.specs.Prelude.{◌≡◌, ℕ, ◌-◌, List, [], ◌∷◌, length, take, drop, map, true, None}
+use Rattle.std.specs.Prelude.{◌≡◌, ℕ, ◌-◌, ◌%◌, List, [], ◌∷◌, length, take, drop, map, true, None}
 use Rattle.std.specs.Option.{unwrap_or}
 use Rattle.std.specs.List.{AllByRecursion}
-use Rattle.std.specs.Str.Parse.{digits_value}
-use Rattle.hv_dtlex.specs.Values.{value_of_number, string_bytes}
+use Rattle.hv_dtlex.specs.Values.{value_of_number, cell_of, string_bytes}
 use Rattle.hv_dtlex.specs.declared.token.Token.{Token}
 use Rattle.hv_dtlex.specs.declared.token.TokenKind.{TokenKind}
 use Rattle.hv_dtlex.specs.declared.token.TokenKind.TheVariants as kind
@@ -66,7 +65,7 @@ kind_piece kind.Label bytes place = label (record { name = take (length bytes - 
 kind_piece kind.Word bytes place = word (record { name = bytes; place = place })
 kind_piece kind.Number bytes place = number (unwrap_or (value_of_number bytes) 0)
 kind_piece kind.Text bytes place = text (string_bytes (drop 1 bytes))
-kind_piece kind.Pair bytes place = pair (digits_value 16 bytes)
+kind_piece kind.Pair bytes place = pair (unwrap_or (cell_of 16 bytes) 0 % 256)
 kind_piece kind.Reference bytes place = reference (record { name = drop 1 bytes; place = place })
 kind_piece kind bytes place = mark (kind_symbol kind on.NoName)
 

@@ -9,3 +9,9 @@ pub mod Bytes
 pub mod Rules
 pub mod Resolved
 pub mod Reading
+pub mod Gathering
+pub mod Sets
+pub mod Siblings
+pub mod Maps
+pub mod Linking
+pub mod Building

@@ -1,12 +1,19 @@
 -- Which texts are sources, the tree that a source stands for, and where a text that is none is refused.
-use Rattle.std.specs.Prelude.{◌≡◌, ℕ, List, Some, None}
+use Rattle.std.specs.Prelude.{◌≡◌, ℕ, List, Some, None, Result, Ok, Err}
 use Rattle.hv_dtree.specs.declared.node.Node.{Node}
 use Rattle.hv_dts.specs.Lexed.{IsBadTokenAt, IsUnexpectedIn}
-use Rattle.hv_dts.specs.Contents.{SourceSyntax, IsWritten}
+use Rattle.hv_dts.specs.Contents.{SourceSyntax, IsWritten, entries_of}
 use Rattle.hv_dts.specs.Rules.{broken_rule}
 use Rattle.hv_dts.specs.Resolved.{IsTreeOf}
+use Rattle.hv_dts.specs.declared.contents.Entry.{Entry}
 use Rattle.hv_dts.specs.declared.refusal.DtsRefusal.{DtsRefusal}
 use Rattle.hv_dts.specs.declared.refusal.DtsRefusal.TheVariants as refusal
+
+-- the text is a source with these entries
+pub record HasEntries (text : List ℕ) (entries : List Entry) : Type 0 where
+  pub syntax : SourceSyntax
+  pub written : IsWritten text syntax
+  pub is : entries ≡ entries_of syntax
 
 -- the text is a source that keeps the rules, and stands for this tree
 pub record IsSourceOf (text : List ℕ) (tree : Node) : Type 0 where
@@ -37,3 +44,22 @@ pub data IsRefusedAt (text : List ℕ) (offset : ℕ) : Type 0 where
   twice_named : Breaks text (refusal.TwiceNamed offset) → IsRefusedAt text offset
   bad_phandle : Breaks text (refusal.BadPhandle offset) → IsRefusedAt text offset
   no_label : Breaks text (refusal.NoLabel offset) → IsRefusedAt text offset
+
+-- the contents of a source are refused so, which want of memory says of any
+abbrev pub IsRuleRefusal : SourceSyntax → DtsRefusal → Type 0
+IsRuleRefusal source (refusal.BadToken offset) = ⊥
+IsRuleRefusal source (refusal.Unexpected offset) = ⊥
+IsRuleRefusal source (refusal.TwiceNamed offset) = broken_rule source ≡ Some (refusal.TwiceNamed offset)
+IsRuleRefusal source (refusal.BadPhandle offset) = broken_rule source ≡ Some (refusal.BadPhandle offset)
+IsRuleRefusal source (refusal.NoLabel offset) = broken_rule source ≡ Some (refusal.NoLabel offset)
+IsRuleRefusal source (refusal.Memory e) = Unit {0}
+
+-- what was read is this tree, unless memory ran out
+abbrev pub IsOnly : Result Node DtsRefusal → Node → Type 0
+IsOnly (Ok found) tree = found ≡ tree
+IsOnly (Err (refusal.BadToken offset)) tree = ⊥
+IsOnly (Err (refusal.Unexpected offset)) tree = ⊥
+IsOnly (Err (refusal.TwiceNamed offset)) tree = ⊥
+IsOnly (Err (refusal.BadPhandle offset)) tree = ⊥
+IsOnly (Err (refusal.NoLabel offset)) tree = ⊥
+IsOnly (Err (refusal.Memory e)) tree = Unit {0}

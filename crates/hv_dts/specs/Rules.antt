@@ -1,10 +1,10 @@
 -- The rules that the contents of a source keep, with the places where they are broken.
 use Rattle.std.specs.Prelude.{ℕ, List, [], ◌∷◌, ◌++◌, map, min, Bool, true, false, not, ◌==◌, nat_eq, if◌then◌else◌, Option, Some, None}
 use Rattle.std.specs.Option.{option_map, option_or}
-use Rattle.std.specs.List.{list_any}
+use Rattle.std.specs.List.{list_any, flat_map}
 use Rattle.std.specs.Cmp.Lexicographic.{pointwise}
 use Rattle.hv_dts.specs.Contents.{PropSyntax, NodesSyntax, none, node, SourceSyntax, entries_of}
-use Rattle.hv_dts.specs.Bytes.{values_references, is_phandle_name, phandle_number}
+use Rattle.hv_dts.specs.Bytes.{cell_lists_references, paths_references, is_phandle_name, phandle_number}
 use Rattle.hv_dts.specs.declared.contents.Named.{Named}
 use Rattle.hv_dts.specs.declared.contents.Entry.{Entry}
 use Rattle.hv_dts.specs.declared.contents.Entry.TheVariants as entry
@@ -38,11 +38,13 @@ nodes_repeated earlier (node labels name props children rest) =
     place_if (has_name earlier name.name) name.place ++ (props_repeated [] props ++ (nodes_repeated [] children ++ nodes_repeated (name.name ∷ earlier) rest))
 
 -- all labels in order
+abbrev pub entry_labels : Entry → List Named
+entry_labels (entry.Property labels name values) = labels
+entry_labels (entry.Open labels name) = labels
+entry_labels entry.Close = []
+
 abbrev pub labels_of : List Entry → List Named
-labels_of [] = []
-labels_of (entry.Property labels name values ∷ entries) = labels ++ labels_of entries
-labels_of (entry.Open labels name ∷ entries) = labels ++ labels_of entries
-labels_of (entry.Close ∷ entries) = labels_of entries
+labels_of entries = flat_map entry_labels entries
 
 -- the places of the labels of the file, and of the names of properties and children of a node, that an earlier one has
 abbrev pub twice_named : SourceSyntax → List ℕ
@@ -59,34 +61,54 @@ abbrev pub with_number : List ℕ → Option ℕ → List ℕ
 with_number earlier None = earlier
 with_number earlier (Some number) = number ∷ earlier
 
+-- the place of an entry that is a bad phandle
+abbrev pub bad_here : List ℕ → Entry → List ℕ
+bad_here earlier (entry.Property labels name values) = if is_phandle_name name.name then bad_place earlier name.place (phandle_number values) else []
+bad_here earlier (entry.Open labels name) = []
+bad_here earlier entry.Close = []
+
+-- the numbers of phandles behind an entry
+abbrev pub numbers_after : List ℕ → Entry → List ℕ
+numbers_after earlier (entry.Property labels name values) = if is_phandle_name name.name then with_number earlier (phandle_number values) else earlier
+numbers_after earlier (entry.Open labels name) = earlier
+numbers_after earlier entry.Close = earlier
+
 -- the places of phandles that are no numbers or earlier ones
 abbrev pub bad_phandles : List ℕ → List Entry → List ℕ
 bad_phandles earlier [] = []
-bad_phandles earlier (entry.Property labels name values ∷ entries) =
-    if is_phandle_name name.name
-    then bad_place earlier name.place (phandle_number values) ++ bad_phandles (with_number earlier (phandle_number values)) entries
-    else bad_phandles earlier entries
-bad_phandles earlier (entry.Open labels name ∷ entries) = bad_phandles earlier entries
-bad_phandles earlier (entry.Close ∷ entries) = bad_phandles earlier entries
+bad_phandles earlier (one ∷ entries) = bad_here earlier one ++ bad_phandles (numbers_after earlier one) entries
 
 -- the labels of nodes
-abbrev pub node_labels : List Entry → List (List ℕ)
-node_labels [] = []
-node_labels (entry.Property labels name values ∷ entries) = node_labels entries
-node_labels (entry.Open labels name ∷ entries) = map (λ label. label.name) labels ++ node_labels entries
-node_labels (entry.Close ∷ entries) = node_labels entries
+abbrev pub node_labels : Entry → List Named
+node_labels (entry.Property labels name values) = []
+node_labels (entry.Open labels name) = labels
+node_labels entry.Close = []
 
--- all references in order
-abbrev pub references_of : List Entry → List Named
-references_of [] = []
-references_of (entry.Property labels name values ∷ entries) = values_references values ++ references_of entries
-references_of (entry.Open labels name ∷ entries) = references_of entries
-references_of (entry.Close ∷ entries) = references_of entries
+-- the references in lists of cells, and the others
+abbrev pub cell_references : Entry → List Named
+cell_references (entry.Property labels name values) = cell_lists_references values
+cell_references (entry.Open labels name) = []
+cell_references entry.Close = []
+
+abbrev pub path_references : Entry → List Named
+path_references (entry.Property labels name values) = paths_references values
+path_references (entry.Open labels name) = []
+path_references entry.Close = []
+
+-- the names among names with places
+abbrev pub names_of : List Named → List (List ℕ)
+names_of labels = map (λ label. label.name) labels
 
 -- the places of references to labels that are none of these
 abbrev pub unlabelled : List (List ℕ) → List Named → List ℕ
 unlabelled labels [] = []
 unlabelled labels (name ∷ names) = place_if (not (has_name labels name.name)) name.place ++ unlabelled labels names
+
+-- the places of references to labels that no node has
+abbrev pub unlabelled_references : List Entry → List ℕ
+unlabelled_references entries =
+    let labels = names_of (flat_map node_labels entries) in
+    unlabelled labels (flat_map cell_references entries) ++ unlabelled labels (flat_map path_references entries)
 
 -- the lesser of two places, where they are there
 abbrev pub lesser : Option ℕ → Option ℕ → Option ℕ
@@ -105,4 +127,4 @@ broken_rule source =
     let entries = entries_of source in
     option_or (option_map (λ place. refusal.TwiceNamed place) (least (twice_named source)))
     (option_or (option_map (λ place. refusal.BadPhandle place) (least (bad_phandles [] entries)))
-    (option_map (λ place. refusal.NoLabel place) (least (unlabelled (node_labels entries) (references_of entries)))))
+    (option_map (λ place. refusal.NoLabel place) (least (unlabelled_references entries))))

@@ -1,4 +1,7 @@
 //! What stands in a source: names, values, and the marks of nodes, in order.
+ghost use Rattle.std.specs.Prelude.{◌≡◌};
+ghost use Rattle.hv_dts.specs.Rules.{entry_labels};
+
 use hv_dtree::Items;
 use hv_text::Bytes;
 
@@ -35,4 +38,17 @@ pub enum Entry {
     /// Labels and a name.
     Open(Items<Named>, Named),
     Close,
+}
+
+impl Entry {
+    /// The labels of the property or the node.
+    pub fn labels(&self) -> &[Named]
+        ensures { result.now ≡ entry_labels self.now }
+    {
+        match self {
+            Entry::Property(labels, _, _) => labels.as_slice(),
+            Entry::Open(labels, _) => labels.as_slice(),
+            Entry::Close => &[],
+        }
+    }
 }
