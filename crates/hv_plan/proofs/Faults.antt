@@ -1,14 +1,12 @@
 -- Faults of items, one item after the other.
 use Rattle.std.proofs.Common.{◌≡◌, ℕ, zero, suc, ◌+◌, ◌<◌, ◌≤◌, List, [], ◌∷◌, ◌++◌, length, get_or, drop, map, refl, sym, ap, subst, ◌∙◌, arith, append_assoc, add-one, drop-cons}
-use Rattle.std.specs.Prelude.{Option, Some, None, Result, Ok, Err, Vec}
-use Rattle.std.specs.declared.alloc.Global.{Global}
+use Rattle.std.specs.Prelude.{Some, None, Err}
 use Rattle.std.specs.List.{enumerate_from}
 use Rattle.std.proofs.lemmas.List.{append-nil, drop_all}
 use Rattle.hv_text.specs.Path.{path_text}
 use Rattle.hv_dtree.specs.declared.node.Node.{Node}
 use Rattle.hv_plan.specs.Properties.{first_of}
 use Rattle.hv_plan.specs.Guests.{Fault, faults_from, faults_of, Reads, Passes, Plans, Tells}
-use Rattle.hv_plan.specs.declared.guest.GuestPlan.{GuestPlan}
 use Rattle.hv_plan.specs.declared.refusal.Cause.{Cause}
 use Rattle.hv_plan.specs.declared.refusal.PlanRefusal.{PlanRefusal}
 use Rattle.hv_plan.specs.declared.refusal.PlanRefusal.TheVariants.{NoGuest, BadNode, Memory}

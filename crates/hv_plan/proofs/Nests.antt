@@ -1,8 +1,8 @@
 -- How many nodes lie in one another, level by level.
-use Rattle.std.proofs.Common.{◌≡◌, ℕ, suc, ◌+◌, ◌<◌, ◌≤◌, List, [], ◌∷◌, ◌++◌, length, map, max, refl, sym, ap, subst, ◌∙◌, arith}
+use Rattle.std.proofs.Common.{◌≡◌, ℕ, suc, ◌+◌, ◌<◌, List, [], ◌∷◌, ◌++◌, length, map, max, refl, sym, ap, ◌∙◌, arith}
 use Rattle.hv_dtree.specs.Nodes.{children_of}
 use Rattle.hv_dtree.specs.declared.node.Node.{Node}
-use Rattle.hv_dtree.specs.declared.node.Node.TheFolds.{fold-Node, fold_out-Node}
+use Rattle.hv_dtree.specs.declared.node.Node.TheFolds.{fold_out-Node}
 use denote.Ref.{Bor}
 use Rattle.hv_plan.specs.Settings.{nest_of, greatest, all_children, nodes_at}
 

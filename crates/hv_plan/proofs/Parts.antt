@@ -1,6 +1,6 @@
 -- The first fault of a guest, part by part.
-use Rattle.std.proofs.Common.{◌≡◌, ℕ, List, [], ◌∷◌, ◌++◌, refl, sym, ap, subst, ◌∙◌}
-use Rattle.std.specs.Prelude.{Option, Some, None, Result, Ok, Err}
+use Rattle.std.proofs.Common.{◌≡◌, ℕ, List, [], ◌++◌, refl, sym, ap, ◌∙◌}
+use Rattle.std.specs.Prelude.{Option, Some, None, Err}
 use Rattle.std.proofs.lemmas.List.{append-nil}
 use Rattle.hv_dtree.specs.Nodes.{name_of}
 use Rattle.hv_dtree.specs.declared.node.Node.{Node}
@@ -11,7 +11,6 @@ use Rattle.hv_plan.specs.Regions.{region_causes}
 use Rattle.hv_plan.specs.Links.{link_causes, region_plans}
 use Rattle.hv_plan.specs.Windows.{overlap_causes, alias_causes}
 use Rattle.hv_plan.specs.Guests.{Fault, faults_from, faults_of, own_faults, vcpu_faults, region_faults, link_faults, window_faults, alias_faults, guest_causes, causes_of_count, vcpus_of, regions_of, aspace_of, plans_of, in_vcpus, in_regions, Passes, Plans}
-use Rattle.hv_plan.specs.declared.refusal.Cause.{Cause}
 use Rattle.hv_plan.specs.declared.refusal.PlanRefusal.{PlanRefusal}
 use Rattle.hv_plan.proofs.Faults.{told_part, none_first}
 
@@ -28,7 +27,7 @@ pub links_are : (guest aspace : Node) (name : List ℕ) (nodes : List Node) → 
 links_are guest aspace name nodes n a ns =
     ap (λ (m : List ℕ). faults_from (in_regions m) name_of (link_causes (Some aspace) nodes) 0 nodes) n
     ∙ (ap (λ (b : Option Node). faults_from (in_regions (name_of guest)) name_of (link_causes b nodes) 0 nodes) a
-        ∙ ap (λ (ms : List Node). faults_from (in_regions (name_of guest)) name_of (link_causes (aspace_of guest) ms) 0 ms) ns)
+    ∙ ap (λ (ms : List Node). faults_from (in_regions (name_of guest)) name_of (link_causes (aspace_of guest) ms) 0 ms) ns)
 
 pub plans_are : (areas : List (List ℕ × ℕ)) (guest aspace : Node) (nodes : List Node) → Some aspace ≡ aspace_of guest → nodes ≡ regions_of guest → region_plans areas (Some aspace) nodes ≡ plans_of areas guest
 plans_are areas guest aspace nodes a ns = ap (λ (b : Option Node). region_plans areas b nodes) a ∙ ap (region_plans areas (aspace_of guest)) ns

@@ -1,7 +1,7 @@
 -- Texts in values.
-use Rattle.std.proofs.Common.{◌≡◌, ◌≢◌, ℕ, suc, ◌+◌, ◌<◌, Bool, true, false, not, cond, eqb, List, [], ◌∷◌, ◌++◌, length, take, refl, sym, ap, subst, ◌∙◌, arith, ne_eqb, eq-eqb}
-use Rattle.std.specs.Prelude.{Option, Some, None, Result, Ok, Err, nat_eq, if◌then◌else◌}
-use Rattle.std.specs.List.{before_first, position_or_len, AllByRecursion}
+use Rattle.std.proofs.Common.{◌≡◌, ℕ, suc, ◌+◌, Bool, true, false, not, cond, eqb, List, [], ◌∷◌, ◌++◌, length, take, refl, sym, ap, subst, ◌∙◌, arith, ne_eqb}
+use Rattle.std.specs.Prelude.{Option, Some, None, Result, Ok, Err, if◌then◌else◌}
+use Rattle.std.specs.List.{before_first, position_or_len}
 use Rattle.std.specs.Option.{option_copied, option_and_then}
 use Rattle.std.specs.Result.{result_ok}
 use Rattle.std.specs.Cmp.Lexicographic.{pointwise}
@@ -9,7 +9,7 @@ use Rattle.std.proofs.lemmas.Bool.{false≢true}
 use Rattle.std.proofs.lemmas.Slice.Eq.{bytes_eq-Decides}
 use denote.Ref.{Bor}
 use Rattle.hv_text.specs.Front.{IsFree}
-use Rattle.hv_dtree.specs.Values.{IsText, GivesText, IsOneString}
+use Rattle.hv_dtree.specs.Values.{GivesText, IsOneString}
 use Rattle.hv_dtree.specs.declared.node.PropRefusal.{PropRefusal}
 use Rattle.hv_dtree.specs.declared.node.PropRefusal.TheVariants.{NoProperty, BadForm}
 use Rattle.hv_plan.specs.Properties.{text_in}

@@ -2,7 +2,6 @@
 use Rattle.std.specs.Prelude.{◌≡◌, ℕ, Bool, ◌||◌, List, [], ◌∷◌, ◌++◌, length, map, nat_lt, codes, Option, Some, None, Result, Ok, Err, Vec}
 use Rattle.std.specs.declared.alloc.Global.{Global}
 use Rattle.std.specs.List.{flat_map, enumerate_from}
-use Rattle.std.specs.Option.{option_and_then}
 use Rattle.hv_text.specs.Path.{path_text}
 use Rattle.hv_dtree.specs.Nodes.{node_at, child_named, children_of, name_of}
 use Rattle.hv_dtree.specs.declared.node.Node.{Node}

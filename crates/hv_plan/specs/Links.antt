@@ -1,5 +1,5 @@
 -- Which region takes the interrupts of another, and the clock.
-use Rattle.std.specs.Prelude.{ℕ, Bool, true, false, ◌&&◌, ◌==◌, not, List, [], ◌∷◌, ◌++◌, take, map, if◌then◌else◌, codes, unwrap_or, Option, Some, None}
+use Rattle.std.specs.Prelude.{ℕ, Bool, false, ◌&&◌, ◌==◌, not, List, ◌++◌, take, map, if◌then◌else◌, codes, unwrap_or, Option, Some, None}
 use Rattle.std.specs.List.{list_any, position_from, enumerate_from}
 use Rattle.std.specs.Option.{option_map_or, option_map, option_and_then, option_or}
 use Rattle.hv_text.specs.declared.address.AddressType.TheVariants.{Memory}

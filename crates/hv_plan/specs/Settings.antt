@@ -9,7 +9,6 @@ use Rattle.hv_text.specs.declared.limit.LimitName.{LimitName}
 use Rattle.hv_text.specs.declared.limit.LimitName.TheVariants.{Nest, Areas, Guests}
 use Rattle.hv_dtree.specs.Nodes.{prop_value, child_named, children_of, name_of}
 use Rattle.hv_dtree.specs.declared.node.Node.{Node}
-use Rattle.hv_dtree.specs.declared.node.Node.TheOpen.{Node-F}
 use Rattle.hv_dtree.specs.declared.node.Node.TheFolds.{fold-Node}
 use Rattle.hv_plan.specs.Properties.{cell_in, number_of, is_within, nodes_in, first_of}
 use Rattle.hv_plan.specs.declared.host.Host.{Host}

@@ -1,5 +1,5 @@
 -- The windows of planned regions.
-use Rattle.std.specs.Prelude.{ℕ, ◌+◌, Bool, true, false, ◌&&◌, not, List, [], ◌∷◌, take, nat_lt, nat_le}
+use Rattle.std.specs.Prelude.{ℕ, ◌+◌, Bool, true, false, ◌&&◌, not, List, take, nat_lt, nat_le}
 use Rattle.std.specs.List.{list_any}
 use Rattle.hv_text.specs.declared.address.AddressType.{AddressType}
 use Rattle.hv_text.specs.declared.address.AddressType.TheVariants.{Memory, Io}

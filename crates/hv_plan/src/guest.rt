@@ -53,13 +53,7 @@ fn read_vcpus(alloc: Global, guest: &[u8], nodes: &[Node]) -> Result<Vec<VcpuPla
         match read_vcpu(node) {
             Ok(plan) => plans.push(plan)?,
             Err(cause) => {
-                return Err(inner_fault(
-                    alloc,
-                    guest,
-                    b"vcpus",
-                    node.name.as_slice(),
-                    cause,
-                ));
+                return Err(inner_fault(alloc, guest, b"vcpus", node.name.as_slice(), cause));
             }
         }
     }
@@ -85,13 +79,7 @@ fn read_regions(
     for row in 0..nodes.len() {
         let node = &nodes[row];
         if let Some(cause) = region_cause(areas, node) {
-            return Err(inner_fault(
-                alloc,
-                guest,
-                b"aspace",
-                node.name.as_slice(),
-                cause,
-            ));
+            return Err(inner_fault(alloc, guest, b"aspace", node.name.as_slice(), cause));
         }
         let link = links[row];
         let plan = region_plan(alloc, areas, aspace, nodes, clock, row, node, link)?;
@@ -114,13 +102,7 @@ fn check_links(
     for row in 0..nodes.len() {
         let node = &nodes[row];
         if let Some(cause) = link_cause(links, row, node, links[row]) {
-            return Err(inner_fault(
-                alloc,
-                guest,
-                b"aspace",
-                node.name.as_slice(),
-                cause,
-            ));
+            return Err(inner_fault(alloc, guest, b"aspace", node.name.as_slice(), cause));
         }
     }
     Ok(())
@@ -133,13 +115,7 @@ fn check_windows(alloc: Global, guest: &[u8], plans: &[RegionPlan]) -> Result<()
     for row in 0..plans.len() {
         let plan = &plans[row];
         if let Some(cause) = overlap_cause(plans, row, plan) {
-            return Err(inner_fault(
-                alloc,
-                guest,
-                b"aspace",
-                plan.name.as_slice(),
-                cause,
-            ));
+            return Err(inner_fault(alloc, guest, b"aspace", plan.name.as_slice(), cause));
         }
     }
     Ok(())
@@ -152,24 +128,14 @@ fn check_aliases(alloc: Global, guest: &[u8], plans: &[RegionPlan]) -> Result<()
     for row in 0..plans.len() {
         let plan = &plans[row];
         if let Some(cause) = alias_cause(plans, plan) {
-            return Err(inner_fault(
-                alloc,
-                guest,
-                b"aspace",
-                plan.name.as_slice(),
-                cause,
-            ));
+            return Err(inner_fault(alloc, guest, b"aspace", plan.name.as_slice(), cause));
         }
     }
     Ok(())
 }
 
 /// The plan of a guest's node.
-fn plan_of(
-    alloc: Global,
-    areas: &[(Bytes, u64)],
-    guest: &Node,
-) -> Result<GuestPlan, PlanRefusal>
+fn plan_of(alloc: Global, areas: &[(Bytes, u64)], guest: &Node) -> Result<GuestPlan, PlanRefusal>
     requires { length areas.now ≤ 8 }
     ensures { Plans areas.now (Some guest.now) result }
 {
@@ -207,6 +173,25 @@ fn plan_of(
     })
 }
 
+/// The plan of a guest below a root.
+pub(crate) fn plan_below(
+    alloc: Global,
+    root: &Node,
+    areas: &[(Bytes, u64)],
+    name: &[u8],
+) -> Result<GuestPlan, PlanRefusal>
+    requires { length areas.now ≤ 8 }
+    ensures { Plans areas.now (guest_node root.now name.now) result }
+{
+    let Some(guests) = child(root, b"guests") else {
+        return Err(PlanRefusal::NoGuest);
+    };
+    let Some(guest) = child(guests, name) else {
+        return Err(PlanRefusal::NoGuest);
+    };
+    plan_of(alloc, areas, guest)
+}
+
 /// The plan of the guest of a name, whose regions may show these areas.
 pub fn plan_guest(
     alloc: Global,
@@ -217,11 +202,5 @@ pub fn plan_guest(
     requires { length areas.now ≤ 8 }
     ensures { Plans areas.now (guest_node tree.now name.now) result }
 {
-    let Some(guests) = child(tree.root(), b"guests") else {
-        return Err(PlanRefusal::NoGuest);
-    };
-    let Some(guest) = child(guests, name) else {
-        return Err(PlanRefusal::NoGuest);
-    };
-    plan_of(alloc, areas, guest)
+    plan_below(alloc, tree.root(), areas, name)
 }

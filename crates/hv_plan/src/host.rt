@@ -14,8 +14,11 @@ use hv_text::{Bytes, LimitName};
 use std::alloc::{AllocError, Global};
 
 const MOST_NEST: u64 = 32;
+
 const MOST_AREAS: u64 = 8;
+
 const MOST_GUESTS: u64 = 32;
+
 const MOST_AREA_BYTES: u64 = 16777216;
 
 /// What a tree says of the host, and the names of its guests.
@@ -133,11 +136,10 @@ fn names_of(alloc: Global, nodes: &[Node]) -> Result<Vec<Bytes>, AllocError>
     Ok(names)
 }
 
-/// The settings of a tree's host.
-pub fn host_settings(alloc: Global, tree: &Tree) -> Result<Host, HostRefusal>
-    ensures { Settles tree.now result }
+/// The settings of a host below a root.
+pub(crate) fn settings_below(alloc: Global, root: &Node) -> Result<Host, HostRefusal>
+    ensures { Settles root.now result }
 {
-    let root = tree.root();
     let area_nodes = nodes_in(root, b"areas");
     let guest_nodes = nodes_in(root, b"guests");
     let nest = nest_of(alloc, root)?;
@@ -158,4 +160,11 @@ pub fn host_settings(alloc: Global, tree: &Tree) -> Result<Host, HostRefusal>
         areas,
         guests,
     })
+}
+
+/// The settings of a tree's host.
+pub fn host_settings(alloc: Global, tree: &Tree) -> Result<Host, HostRefusal>
+    ensures { Settles tree.now result }
+{
+    settings_below(alloc, tree.root())
 }

@@ -7,6 +7,8 @@
 
 mod guest;
 mod host;
+#[cfg(test)]
+mod host_tests;
 mod link;
 mod nest;
 mod path;
@@ -14,6 +16,8 @@ mod properties;
 mod refusal;
 mod region;
 mod sort;
+#[cfg(test)]
+mod tests;
 mod vcpu;
 mod windows;
 

@@ -33,12 +33,7 @@ pub(crate) fn path_of_two(alloc: Global, above: &[u8], name: &[u8]) -> Result<By
 }
 
 /// The path of a guest's VCPU or region.
-fn path_of_four(
-    alloc: Global,
-    guest: &[u8],
-    inner: &[u8],
-    name: &[u8],
-) -> Result<Bytes, AllocError>
+fn path_of_four(alloc: Global, guest: &[u8], inner: &[u8], name: &[u8]) -> Result<Bytes, AllocError>
     ensures { IfOk result (λ path. path ≡ path_text (codes "guests" ∷ guest.now ∷ inner.now ∷ name.now ∷ [])) }
 {
     let mut path = path_of_two(alloc, b"guests", guest)?;

@@ -234,9 +234,7 @@ pub(crate) fn form_of(
             area: area_row(areas, node),
             offset: number_or(0, node, b"area_offset").unwrap_or(0),
         }),
-        Some(Sort::Alias) => Ok(Form::Alias(
-            number(node, b"alias_physical_addr").unwrap_or(0),
-        )),
+        Some(Sort::Alias) => Ok(Form::Alias(number(node, b"alias_physical_addr").unwrap_or(0))),
     }
 }
 

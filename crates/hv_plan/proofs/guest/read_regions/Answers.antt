@@ -1,8 +1,7 @@
-use Rattle.std.proofs.Common.{◌≡◌, ℕ, List, [], ◌∷◌, ◌++◌, subst, sym}
+use Rattle.std.proofs.Common.{ℕ, List, [], ◌∷◌, ◌++◌, subst, sym}
 use Rattle.std.specs.Prelude.{Some}
 use Rattle.hv_text.specs.Path.{path_text}
 use Rattle.hv_dtree.specs.Nodes.{name_of}
-use Rattle.hv_dtree.specs.declared.node.Node.{Node}
 use Rattle.hv_plan.specs.Regions.{region_causes}
 use Rattle.hv_plan.specs.Links.{region_plan, region_plans}
 use Rattle.hv_plan.specs.Guests.{faults_from, in_regions, Tells}
@@ -29,6 +28,6 @@ loop-row-preserved c =
     let faults = faults_from (in_regions guest) name_of (λ row node. region_causes areas node) 0 nodes in
     let none = none_first (region_causes areas node) (sym c.in_default.ensures) in
     record {
-  faults = pass_one (in_regions guest) name_of (λ row node. region_causes areas node) nodes c.loop-row.row node faults c.loop-row-test.true c.index-nodes-row.is none c.loop-row.invariant.faults;
-  made = row_more (region_plan areas (Some c.args.aspace.now) nodes) nodes c.loop-row.row node c.in_ok-plan.plan c.loop-row.plans.items c.push.new.self.items (region_plans areas (Some c.args.aspace.now) nodes) c.loop-row-test.true c.index-nodes-row.is c.in_ok-plan.ensures c.in_ok-push.ensures.items c.loop-row.invariant.made;
-}
+      faults = pass_one (in_regions guest) name_of (λ row node. region_causes areas node) nodes c.loop-row.row node faults c.loop-row-test.true c.index-nodes-row.is none c.loop-row.invariant.faults;
+      made = row_more (region_plan areas (Some c.args.aspace.now) nodes) nodes c.loop-row.row node c.in_ok-plan.plan c.loop-row.plans.items c.push.new.self.items (region_plans areas (Some c.args.aspace.now) nodes) c.loop-row-test.true c.index-nodes-row.is c.in_ok-plan.ensures c.in_ok-push.ensures.items c.loop-row.invariant.made;
+    }

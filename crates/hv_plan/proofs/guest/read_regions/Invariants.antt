@@ -1,4 +1,4 @@
-use Rattle.std.proofs.Common.{◌≡◌, ◌++◌, drop, map}
+use Rattle.std.proofs.Common.{◌≡◌, ◌++◌, drop}
 use Rattle.std.specs.Prelude.{Some}
 use Rattle.hv_dtree.specs.Nodes.{name_of}
 use Rattle.hv_plan.specs.Regions.{region_causes}

@@ -1,4 +1,4 @@
-use Rattle.std.proofs.Common.{◌≡◌, ◌<◌, length, arith, false-eqb}
+use Rattle.std.proofs.Common.{◌<◌, length, arith, false-eqb}
 use Rattle.hv_plan.proofs.Nests.{level_step}
 use Rattle.hv_plan.proofs.nest.nest_of.Goals as goal
 

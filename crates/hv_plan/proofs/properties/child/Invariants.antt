@@ -1,5 +1,5 @@
 use Rattle.std.proofs.Common.{◌≡◌, drop}
-use Rattle.hv_dtree.specs.Nodes.{child_named, children_of}
+use Rattle.hv_dtree.specs.Nodes.{child_named}
 use Rattle.hv_plan.proofs.properties.child.Given as goal
 
 abbrev pub invariant-loop-child : goal.invariant-loop-child

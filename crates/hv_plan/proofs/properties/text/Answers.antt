@@ -1,4 +1,4 @@
-use Rattle.std.proofs.Common.{ap, sym, ◌∙◌}
+use Rattle.std.proofs.Common.{ap, ◌∙◌}
 use Rattle.std.specs.Option.{option_copied}
 use Rattle.hv_dtree.specs.Nodes.{prop_value}
 use Rattle.hv_plan.proofs.Texts.{text_is}

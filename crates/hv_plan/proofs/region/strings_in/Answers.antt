@@ -1,4 +1,4 @@
-use Rattle.std.proofs.Common.{sym, ap, ◌∙◌, ◌≡◌, ◌++◌, ◌∷◌, [], List, ℕ}
+use Rattle.std.proofs.Common.{ap, ◌∙◌, ◌≡◌, ◌++◌, ◌∷◌, [], List, ℕ}
 use Rattle.hv_plan.proofs.Pieces.{string_more, strings_all}
 use Rattle.hv_plan.proofs.region.strings_in.Goals as goal
 
