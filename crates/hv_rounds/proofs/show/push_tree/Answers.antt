@@ -1,11 +1,11 @@
 use Rattle.std.proofs.Common.{◌≡◌, Err, List, ℕ, subst}
 use Rattle.hv_dtree.specs.declared.node.Node.{Node}
-use Rattle.hv_dts.specs.Reading.{GivesTree}
+use Rattle.hv_dts.specs.Reading.{IsOnly}
 use Rattle.hv_dts.specs.declared.refusal.DtsRefusal.{DtsRefusal}
 use Rattle.hv_rounds.proofs.show.push_tree.Goals as goal
 
-told : (tree : Node) (r s : DtsRefusal) → r ≡ s → GivesTree (Err r) tree → GivesTree (Err s) tree
-told tree r s is gives = subst (λ (x : DtsRefusal). GivesTree (Err x) tree) is gives
+told : (tree : Node) (r s : DtsRefusal) → r ≡ s → IsOnly (Err r) tree → IsOnly (Err s) tree
+told tree r s is gives = subst (λ (x : DtsRefusal). IsOnly (Err x) tree) is gives
 
 pub unreachable-requires : goal.unreachable-requires
 unreachable-requires c = told c.requires.0 _ _ c.in-Err-BadToken.field-0-is (c.in-Err-BadToken.ensures.only c.requires.0 c.requires.1)

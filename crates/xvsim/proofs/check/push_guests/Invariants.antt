@@ -3,7 +3,7 @@ use Rattle.xvsim.specs.Check.{guests_text}
 use Rattle.xvsim.proofs.check.push_guests.Given as goal
 
 abbrev pub invariant-guests : goal.invariant-guests
-invariant-guests l = l.to ++ guests_text l.names-2 l.plans-2 ≡ l.fn.to ++ guests_text l.fn.names l.fn.plans
+invariant-guests l = l.to ++ guests_text l.names l.plans ≡ l.fn.to ++ guests_text l.fn.names l.fn.plans
 
 abbrev pub decreases-guests : goal.decreases-guests
-decreases-guests l = length l.names-2
+decreases-guests l = length l.names

@@ -1,0 +1,19 @@
+use Rattle.xvsim.proofs.Told.{follows, good_of, check_of}
+use Rattle.xvsim.specs.Check.{IsCheckOf, AppendsCheck, AppendsCheckFront}
+use Rattle.xvsim.proofs.top.check_bundle.Goals as goal
+
+pub returns-in-Ok-write_all-clause-check : goal.returns-in-Ok-write_all-clause-check
+returns-in-Ok-write_all-clause-check g c = λ done.
+    follows (λ bytes. IsCheckOf bytes c.in-Ok-check_text.text) _ _ (λ bytes is. record { text = c.in-Ok-check_text.text; is_check = is; appended = ? })
+    (check_of _ _ _ c.in-Ok.input c.in-Ok-check_text.text c.in-Ok.ensures.whole c.in-Ok.ensures.all c.in-Ok-check_text.ensures)
+
+pub returns-in-Ok-write_all-clause-due : goal.returns-in-Ok-write_all-clause-due
+returns-in-Ok-write_all-clause-due g c = good_of _ _ _ c.in-Ok.input c.in-Ok.ensures.whole c.in-Ok.ensures.all
+
+pub returns-in-Ok-check_text-clause-cut_short : goal.returns-in-Ok-check_text-clause-cut_short
+returns-in-Ok-check_text-clause-cut_short g c = λ done.
+    follows (λ bytes. IsCheckOf bytes c.in-Ok-check_text.text) _ _ (λ bytes is. record { text = c.in-Ok-check_text.text; is_check = is; appended = ? })
+    (check_of _ _ _ c.in-Ok.input c.in-Ok-check_text.text c.in-Ok.ensures.whole c.in-Ok.ensures.all c.in-Ok-check_text.ensures)
+
+pub returns-in-Ok-check_text-clause-due : goal.returns-in-Ok-check_text-clause-due
+returns-in-Ok-check_text-clause-due g c = good_of _ _ _ c.in-Ok.input c.in-Ok.ensures.whole c.in-Ok.ensures.all
