@@ -48,7 +48,8 @@ fn are_name_bytes(text: &[u8]) -> bool
     text.iter().all(|byte| is_name_byte(*byte))
 }
 
-fn is_name(text: &[u8]) -> bool
+/// Whether a text is a name.
+pub fn is_name(text: &[u8]) -> bool
     ensures { IsTrue result ↔ IsName text.now }
 {
     if text.is_empty() {

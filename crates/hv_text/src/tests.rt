@@ -44,6 +44,23 @@ fn lines_with_and_without_returns(rt: HostRuntime) {
 }
 
 #[test]
+fn names_and_other_texts(rt: HostRuntime) {
+    let cases: [(&[u8], bool); 8] = [
+        (b"a", true),
+        (b"-", true),
+        (b"...", true),
+        (b"boot.xscript", true),
+        (b".", false),
+        (b"..", false),
+        (b"", false),
+        (b"a/b", false),
+    ];
+    for (text, name) in cases {
+        assert_eq!(rt; is_name(text), name);
+    }
+}
+
+#[test]
 fn paths_both_ways(rt: HostRuntime) -> Result<(), Fail> {
     let alloc = rt.alloc();
     assert_eq!(rt; Path::root(alloc).text(alloc)?.as_slice(), b"/".as_slice());
