@@ -1,0 +1,5 @@
+pub mod Words
+pub mod Numbers
+pub mod Table
+pub mod Spelling
+pub mod Lines

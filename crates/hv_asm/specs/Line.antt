@@ -38,15 +38,23 @@ pub record SpellsInstruction (ws : List (List ℕ)) (word : ℕ) : Type 0 where
   pub decodes : decoded word ≡ Some inst
   pub spelled : IsSpelled (syntax_of inst) ws
 
--- a line, without its comment, stands for a word: as an instruction, or by its number
-pub record StandsFor (line : List ℕ) (word : ℕ) : Type 0 where
+-- words spell a word: as an instruction, or by its number
+pub record SpellWord (ws : List (List ℕ)) (word : ℕ) : Type 0 where
   pub fits : word < 2 ^ 32
-  pub spelled : SpellsInstruction (words (without_comment line)) word ⊎ IsSpelled (literal word) (words (without_comment line))
+  pub spelled : SpellsInstruction ws word ⊎ IsSpelled (literal word) ws
+
+-- a line stands for the word that it spells without its comment
+abbrev pub StandsFor : List ℕ → ℕ → Type 0
+StandsFor line word = SpellWord (words (without_comment line)) word
+
+-- words give the word that they spell, and none where there are none
+abbrev pub Give : List (List ℕ) → Option ℕ → Type 0
+Give ws None = ws ≡ []
+Give ws (Some word) = SpellWord ws word
 
 -- a line gives a word that it stands for, and none where it is blank without its comment
 abbrev pub Gives : List ℕ → Option ℕ → Type 0
-Gives line None = words (without_comment line) ≡ []
-Gives line (Some word) = StandsFor line word
+Gives line answer = Give (words (without_comment line)) answer
 
 -- a line is neither blank nor one of the forms
 abbrev pub IsBadLine : List ℕ → Type 0

@@ -1,5 +1,5 @@
 -- The operands of an assembler line, as they are read and as they are printed.
-use Rattle.std.specs.Prelude.{◌≡◌, ℕ, ◌<◌, ◌^◌, ℤ, pos, neg_ℤ, nat_eq, nat_lt, if◌then◌else◌, false, List, [], ◌∷◌, ◌++◌, codes, drop, Option, Some, None, Result, Ok, Err}
+use Rattle.std.specs.Prelude.{◌≡◌, ℕ, ◌^◌, ℤ, pos, neg_ℤ, nat_eq, nat_lt, if◌then◌else◌, false, List, [], ◌∷◌, ◌++◌, codes, drop, Option, Some, None, Result, Ok, Err}
 use Rattle.std.specs.Fmt.{decimal, signed_decimal, digits}
 use Rattle.std.specs.List.{starts_with}
 use Rattle.std.specs.Option.{option_map}

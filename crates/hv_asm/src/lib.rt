@@ -1,4 +1,15 @@
 //! Assembler text: the words that its lines stand for, and the lines of words.
 #![tactic(auto)]
 
+mod forms;
+mod line;
+mod names;
+mod number;
 mod operand;
+mod operands;
+mod refusal;
+mod syntax;
+mod word;
+
+pub use line::read_asm;
+pub use refusal::{AsmRefusal, BadLineAsm};
