@@ -7,9 +7,11 @@ mod names;
 mod number;
 mod operand;
 mod operands;
+mod print;
 mod refusal;
 mod syntax;
 mod word;
 
 pub use line::read_asm;
+pub use print::print_asm;
 pub use refusal::{AsmRefusal, BadLineAsm};
