@@ -3,3 +3,4 @@ pub mod Numbers
 pub mod Table
 pub mod Spelling
 pub mod Lines
+pub mod Printed

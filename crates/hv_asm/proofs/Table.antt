@@ -680,7 +680,7 @@ sound name (Three (Decimal z) (Register a) (Register b)) i fit h = fence_sound n
 sound name _ i fit h = absurd (cc)
 
 -- the name of each instruction begins with a letter
-begins_with_letter : (i : Inst) → ltb 46 (get_or (syntax_of i).name 0 0) ≡ true
+pub begins_with_letter : (i : Inst) → ltb 46 (get_or (syntax_of i).name 0 0) ≡ true
 begins_with_letter (Lui a b) = refl
 begins_with_letter (Auipc a b) = refl
 begins_with_letter (Jal a b) = refl

@@ -77,7 +77,8 @@ fn push_syntax(
 }
 
 fn push_word(alloc: Global, to: &mut Bytes, word: u32) -> Result<(), AllocError>
-    ensures { OnOk result (to.new ≡ to.old ++ assembler_text word) }
+    ensures text { OnOk result (to.new ≡ to.old ++ assembler_text word) }
+    ensures reads_back { StandsFor (assembler_text word) word }
 {
     match decode(word) {
         Some(inst) => push_syntax(alloc, to, name_of(inst), operands_of(inst)),
@@ -92,6 +93,9 @@ fn push_word(alloc: Global, to: &mut Bytes, word: u32) -> Result<(), AllocError>
 pub fn print_asm(alloc: Global, to: &mut Bytes, word: u32) -> Result<(), AllocError>
     ensures ok { OnOk result (to.new ≡ to.old ++ assembler_text word) }
     ensures err { OnErr result (to.new ≡ to.old) }
+
+    // The line that is printed is read as the word.
+    ensures reads_back { StandsFor (assembler_text word) word }
 {
     let mut line = Bytes::from_vec(Vec::new(alloc));
     push_word(alloc, &mut line, word)?;
