@@ -4,3 +4,5 @@ pub mod Table
 pub mod Spelling
 pub mod Lines
 pub mod Printed
+pub mod Unique
+pub mod Assemblies

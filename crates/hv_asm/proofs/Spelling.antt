@@ -14,12 +14,12 @@ use Rattle.hv_asm.specs.Reading.{HasRegisters, HaveRegisters, IsBeforeComma, as_
 use Rattle.hv_asm.proofs.Numbers.{digits_free, value_free, no_register_value}
 
 -- the name of a register has no parenthesis
-register_free : (n : ℕ) → n < 32 → IsFree 40 (register_text n)
+pub register_free : (n : ℕ) → n < 32 → IsFree 40 (register_text n)
 register_free n small =
     ((λ is. omega (arith, is)), digits_free 10 40 (decimal n) (omega arith) (decimal_is_IsNumeral n (omega arith)).0.1)
 
 -- so has a number
-number_free_40 : (text : List ℕ) (z : ℤ) → number_value text ≡ Some z → IsFree 40 text
+pub number_free_40 : (text : List ℕ) (z : ℤ) → number_value text ≡ Some z → IsFree 40 text
 number_free_40 text z h = value_free 40 text z (omega arith) (λ is. omega (arith, is)) (λ is. omega (arith, is)) h
 
 -- two registers with one name are one
@@ -27,7 +27,7 @@ same_register : (m n : ℕ) → m < 32 → n < 32 → register_text m ≡ regist
 same_register m n small other is = decimal_injective m n (omega arith) (omega arith) (cc)
 
 -- lists that end alike begin alike
-same_before : (a b : List ℕ) (c : ℕ) → a ++ c ∷ [] ≡ b ++ c ∷ [] → a ≡ b
+pub same_before : (a b : List ℕ) (c : ℕ) → a ++ c ∷ [] ≡ b ++ c ∷ [] → a ≡ b
 same_before [] [] c is = refl
 same_before [] (y ∷ []) c is = absurd (omega (arith, ap length is))
 same_before [] (y ∷ z ∷ b) c is = absurd (omega (arith, ap length is))

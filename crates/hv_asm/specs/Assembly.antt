@@ -1,8 +1,10 @@
 -- What a text of assembler lines assembles to.
-use Rattle.std.specs.Prelude.{◌≡◌, ℕ, ◌+◌, List, [], ◌∷◌, ◌++◌, length, Option, Some, None}
+use Rattle.std.specs.Prelude.{◌≡◌, ℕ, ◌+◌, List, [], ◌∷◌, ◌++◌, length, Option, Some, None, Result, Ok, Err, ⊤}
 use Rattle.std.specs.List.{flat_map}
 use Rattle.byteorder.specs.Endian.{little_bytes}
 use Rattle.hv_text.specs.Lines.{script_lines}
+use Rattle.hv_asm.specs.declared.refusal.AsmRefusal.{AsmRefusal}
+use Rattle.hv_asm.specs.declared.refusal.AsmRefusal.TheVariants.{BadAsm, Memory}
 use Rattle.hv_asm.specs.Line.{Gives, IsBadLine}
 
 -- each line gives its answer
@@ -32,3 +34,26 @@ pub record HasBadLine (text : List ℕ) (number : ℕ) : Type 0 where
   pub good : AllGive front answers
   pub bad : IsBadLine line
   pub number_is : number ≡ length front + 1
+
+-- what a text was found to be: its bytes, or its first bad line, unless memory ran out
+abbrev pub Says : List ℕ → Result (List ℕ) AsmRefusal → Type 0
+Says text (Ok bytes) = IsAssembled text bytes
+Says text (Err (BadAsm number)) = HasBadLine text number
+Says text (Err (Memory e)) = ⊤
+
+-- what a text was found to be is this, unless memory ran out
+abbrev pub IsUnlessMemory : Result (List ℕ) AsmRefusal → Result (List ℕ) AsmRefusal → Type 0
+IsUnlessMemory (Ok bytes) wanted = Ok bytes ≡ wanted
+IsUnlessMemory (Err (BadAsm number)) wanted = Err (BadAsm number) ≡ wanted
+IsUnlessMemory (Err (Memory e)) wanted = ⊤
+
+-- a line's bytes were added
+pub record AddsLine (line old new : List ℕ) : Type 0 where
+  pub answer : Option ℕ
+  pub gives : Gives line answer
+  pub bytes_are : new ≡ old ++ answer_bytes answer
+
+-- a line was refused: it is bad, or memory ran out
+abbrev pub IsRefusedAt : List ℕ → ℕ → AsmRefusal → Type 0
+IsRefusedAt line number (BadAsm n) = (n ≡ number) × IsBadLine line
+IsRefusedAt line number (Memory e) = ⊤

@@ -1,6 +1,7 @@
 //! Assembler text: the words that its lines stand for, and the lines of words.
 #![tactic(auto)]
 
+mod assembly;
 mod forms;
 mod line;
 mod names;
@@ -12,6 +13,7 @@ mod refusal;
 mod syntax;
 mod word;
 
+pub use assembly::assemble;
 pub use line::read_asm;
 pub use print::print_asm;
 pub use refusal::{AsmRefusal, BadLineAsm};
