@@ -11,6 +11,8 @@ mod operands;
 mod print;
 mod refusal;
 mod syntax;
+#[cfg(test)]
+mod tests;
 mod word;
 
 pub use assembly::assemble;
