@@ -1,9 +1,8 @@
 -- A text assembles to one list of bytes, or has one first bad line.
-use Rattle.std.proofs.Common.{◌≡◌, ℕ, zero, suc, ◌+◌, ◌<◌, ◌≤◌, List, [], ◌∷◌, ◌++◌, length, drop, Option, Some, None, refl, sym, ap, subst, ◌∙◌, arith, append_assoc, length-append}
-use Rattle.std.specs.Prelude.{Result, Ok, Err, slice_range}
+use Rattle.std.proofs.Common.{◌≡◌, ℕ, false, ◌+◌, ◌≤◌, List, [], ◌∷◌, ◌++◌, length, drop, Option, refl, sym, ap, subst, ◌∙◌, arith, append_assoc, length-append}
+use Rattle.std.specs.Prelude.{Result, Ok, Err, is_err, IfOk, slice_range}
 use Rattle.std.specs.List.{flat_map}
 use Rattle.std.proofs.lemmas.List.{append-nil}
-use Rattle.hv_isa.specs.Table.{decoded}
 use Rattle.hv_text.specs.Lines.{script_lines, IsLineAt}
 use Rattle.hv_asm.specs.declared.refusal.AsmRefusal.{AsmRefusal}
 use Rattle.hv_asm.specs.declared.refusal.AsmRefusal.TheVariants.{BadAsm, Memory}
@@ -87,7 +86,7 @@ same_answers (l ∷ lines) (c ∷ a) (d ∷ b) x y =
     cc
 
 -- so it has one list of bytes
-one_assembly : (text a b : List ℕ) → IsAssembled text a → IsAssembled text b → a ≡ b
+pub one_assembly : (text a b : List ℕ) → IsAssembled text a → IsAssembled text b → a ≡ b
 one_assembly text a b x y =
     x.bytes_are ∙ ap (λ (answers : List (Option ℕ)). flat_map answer_bytes answers) (same_answers (script_lines text) x.answers y.answers x.each y.each) ∙ sym y.bytes_are
 
@@ -103,7 +102,7 @@ not_among (l ∷ lines) (f ∷ front) line behind (a ∷ answers) is each bad =
     let tails : lines ≡ front ++ line ∷ behind = cc in
     not_among lines front line behind answers tails each.1 bad
 
-not_both : (text bytes : List ℕ) (number : ℕ) → IsAssembled text bytes → HasBadLine text number → ⊥
+pub not_both : (text bytes : List ℕ) (number : ℕ) → IsAssembled text bytes → HasBadLine text number → ⊥
 not_both text bytes number x y = not_among (script_lines text) y.front y.line y.behind x.answers y.lines_are x.each y.bad
 
 -- the first bad line is one
@@ -125,7 +124,7 @@ same_front (f ∷ front) (o ∷ other) line last behind more (a ∷ answers) (b 
     let fewer = same_front front other line last behind more answers others tails x.1 y.1 bad worse in
     omega (arith, fewer)
 
-one_bad_line : (text : List ℕ) (m n : ℕ) → HasBadLine text m → HasBadLine text n → m ≡ n
+pub one_bad_line : (text : List ℕ) (m n : ℕ) → HasBadLine text m → HasBadLine text n → m ≡ n
 one_bad_line text m n x y =
     omega (arith, x.number_is, y.number_is, same_front x.front y.front x.line y.line x.behind y.behind x.answers y.answers (sym x.lines_are ∙ y.lines_are) x.good y.good x.bad y.bad)
 
@@ -139,3 +138,30 @@ pub bad_only : (text : List ℕ) (r : Result (List ℕ) AsmRefusal) (number : �
 bad_only text (Ok found) number says is = absurd (not_both text found number says is)
 bad_only text (Err (BadAsm n)) number says is = ap (λ (k : ℕ). Err (BadAsm k)) (one_bad_line text n number says is)
 bad_only text (Err (Memory e)) number says is = tt
+
+-- the lines before an offset give their answers
+pub record GoodTo (text : List ℕ) (from : ℕ) : Type 0 where
+  pub number : ℕ
+  pub bytes : List ℕ
+  pub so_far : AssembledTo text from number bytes
+
+pub good_start : (text : List ℕ) → GoodTo text 0
+good_start text = record { number = 0; bytes = []; so_far = at_start text }
+
+pub good_more : (text : List ℕ) (from start end next : ℕ) (answer : Option ℕ) → GoodTo text from → IsLineAt text from start end next → Gives (slice_range text start end) answer → GoodTo text next
+good_more text from start end next answer good at gives = record {
+  number = good.number + 1;
+  bytes = good.bytes ++ answer_bytes answer;
+  so_far = one_more text from good.number start end next good.bytes (good.bytes ++ answer_bytes answer) good.so_far at (record { answer = answer; gives = gives; bytes_are = refl });
+}
+
+-- what a read line gave
+pub answer_of : {E : Type 0} (r : Result (Option ℕ) E) (P : Option ℕ → Type 0) → is_err r ≡ false → IfOk r P → (answer : Option ℕ) × P answer
+answer_of (Ok a) P is given = (a, given)
+answer_of (Err e) P is given = absurd (cc)
+
+pub good_end : (text : List ℕ) (from : ℕ) → GoodTo text from → script_lines (drop from text) ≡ [] → (bytes : List ℕ) × IsAssembled text bytes
+good_end text from good none = (good.bytes, at_end text from good.number good.bytes good.so_far none)
+
+pub good_until : (text : List ℕ) (from start end next : ℕ) → GoodTo text from → IsLineAt text from start end next → IsBadLine (slice_range text start end) → (number : ℕ) × HasBadLine text number
+good_until text from start end next good at bad = (good.number + 1, at_bad_line text from good.number start end next good.bytes good.so_far at bad)

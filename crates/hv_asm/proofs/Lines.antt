@@ -1,6 +1,6 @@
 -- The word of a line: it is one at most.
 use Rattle.std.proofs.Common.{◌≡◌, ℕ, ◌<◌, ◌^◌, false, List, [], ◌∷◌, Option, Some, None, refl, sym, ap, subst, ◌∙◌, inl, inr}
-use Rattle.std.specs.Prelude.{codes, pos, nat_eq, ◌↔◌, Result, Ok, Err, IfOk, IsErr}
+use Rattle.std.specs.Prelude.{codes, nat_eq, ◌↔◌, Result, Ok, Err, IfOk, IsErr}
 use Rattle.std.specs.Cmp.Lexicographic.{pointwise}
 use Rattle.std.proofs.lemmas.Slice.Eq.{bytes_eq-Decides}
 use Rattle.hv_exec.specs.declared.inst.Inst.{Inst}
@@ -13,7 +13,7 @@ use Rattle.hv_asm.specs.Line.{IsSpelled, SpellWord, Give}
 use Rattle.hv_asm.specs.Operand.{Spells, AreSpelled}
 use Rattle.hv_asm.specs.Reading.{HaveRegisters, as_read, all_as_read, instruction_of, HasSyntax, IsWordOf}
 use Rattle.hv_asm.specs.Syntax.{Syntax, syntax_of, literal}
-use Rattle.hv_asm.proofs.Table.{complete, not_literal, fit_fields}
+use Rattle.hv_asm.proofs.Table.{complete, fit_fields}
 
 -- an instruction is found by its name and operands
 pub found : (name : List ℕ) (os : Operands) (i : Inst) → HasSyntax i name os → instruction_of name os ≡ Some i
@@ -39,13 +39,6 @@ pub no_word : (name : List ℕ) (os : Operands) (other : ℕ) → pointwise nat_
 no_word name os other unnamed none h = elim h.spelled [
   | inl instruction ↦ let again = found name os instruction.inst instruction.syntax in absurd (cc)
   | inr literal ↦ not_named name unnamed (sym literal.name_is)
-]
-
--- a word by its number has its operand alone
-pub only_literal : (name : List ℕ) (os : Operands) (other : ℕ) → name ≡ codes ".word" → IsWordOf name os other → os ≡ One (Decimal (pos other))
-only_literal name os other named h = elim h.spelled [
-  | inl instruction ↦ absurd (not_literal instruction.inst (instruction.syntax.name_is ∙ named))
-  | inr literal ↦ sym literal.operands_are
 ]
 
 -- an operand that is read as another is spelled like it

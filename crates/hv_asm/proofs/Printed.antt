@@ -1,5 +1,5 @@
 -- The line that is printed for a word stands for the word.
-use Rattle.std.proofs.Common.{◌≡◌, ◌≢◌, ℕ, zero, suc, ◌+◌, ◌-◌, ◌<◌, ◌≤◌, ◌^◌, Bool, true, false, not, ◌&&◌, cond, eqb, ltb, List, [], ◌∷◌, ◌++◌, length, take, drop, get_or, Option, Some, None, Ok, refl, sym, ap, subst, ◌∙◌, arith, inl, inr, ltb-true, ne_eqb, take_all, length-append}
+use Rattle.std.proofs.Common.{◌≡◌, ℕ, zero, suc, ◌-◌, ◌<◌, ◌≤◌, ◌^◌, Bool, true, false, not, ◌&&◌, eqb, ltb, List, [], ◌∷◌, ◌++◌, length, take, get_or, Option, Some, None, Ok, refl, sym, ap, subst, ◌∙◌, arith, inl, inr, ltb-true, ne_eqb, take_all, length-append}
 use Rattle.std.specs.Prelude.{nat_eq, codes, ℤ, pos, negsuc, unsigned_abs, replicate, ⊤, IfSome}
 use Rattle.std.specs.Char.{digit_value}
 use Rattle.std.specs.Fmt.{decimal, signed_decimal, digits}
@@ -10,7 +10,7 @@ use Rattle.std.proofs.lemmas.Bool.{lt-ltb}
 use Rattle.std.proofs.lemmas.Fmt.{decimal_is_IsNumeral, digits_is_IsNumeral, decimal_nonempty}
 use Rattle.std.proofs.lemmas.Int.{ints}
 use Rattle.std.proofs.lemmas.List.{append-nil}
-use Rattle.hv_exec.specs.Fields.{IsSigned, IsOffset, IsImmediate, HasFields, IsWellFormed}
+use Rattle.hv_exec.specs.Fields.{IsSigned, IsOffset, IsWellFormed}
 use Rattle.hv_exec.specs.declared.inst.Inst.{Inst}
 use Rattle.hv_exec.specs.declared.inst.Inst.TheVariants.{Lui, Auipc, Jal, Jalr, Lb, Lh, Lw, Ld, Lbu, Lhu, Lwu, Sb, Sh, Sw, Sd, Beq, Bne, Blt, Bge, Bltu, Bgeu, Addi, Slti, Sltiu, Xori, Ori, Andi, Addiw, Slli, Srli, Srai, Slliw, Srliw, Sraiw, Add, Sub, Sll, Slt, Sltu, Xor, Srl, Sra, Or, And, Mul, Mulh, Mulhsu, Mulhu, Div, Divu, Rem, Remu, Addw, Subw, Sllw, Srlw, Sraw, Mulw, Divw, Divuw, Remw, Remuw, Fence, FenceI, Ecall, Ebreak, Mret, Wfi, Csrrw, Csrrs, Csrrc, Csrrwi, Csrrsi, Csrrci}
 use Rattle.hv_isa.specs.Table.{decoded}
@@ -20,7 +20,7 @@ use Rattle.hv_asm.specs.declared.operand.Operand.{Operand}
 use Rattle.hv_asm.specs.declared.operand.Operand.TheVariants.{Register, Decimal, Hexadecimal, Based}
 use Rattle.hv_asm.specs.declared.operand.Operands.{Operands}
 use Rattle.hv_asm.specs.declared.operand.Operands.TheVariants.{Nothing, One, Two, Three}
-use Rattle.hv_asm.specs.Line.{is_blank, words, without_comment, IsSpelled, SpellWord, StandsFor, text_of, assembler_text}
+use Rattle.hv_asm.specs.Line.{is_blank, words, without_comment, IsSpelled, StandsFor, text_of, assembler_text}
 use Rattle.hv_asm.specs.Operand.{within_word, number_value, register_text, operand_text, operand_words, Spells, AreSpelled}
 use Rattle.hv_asm.specs.Reading.{HasNoBlanks}
 use Rattle.hv_asm.specs.Syntax.{Syntax, syntax_of, syntax_text, literal}

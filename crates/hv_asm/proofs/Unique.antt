@@ -1,9 +1,7 @@
 -- A line stands for one word at most.
-use Rattle.std.proofs.Common.{◌≡◌, ◌≢◌, ℕ, ◌<◌, ◌^◌, List, [], ◌∷◌, ◌++◌, Option, Some, None, refl, sym, ap, subst, ◌∙◌, arith, inl, inr}
+use Rattle.std.proofs.Common.{◌≡◌, ◌≢◌, ℕ, ◌<◌, List, ◌∷◌, ◌++◌, Option, Some, None, refl, sym, ap, subst, ◌∙◌, inl, inr}
 use Rattle.std.specs.Prelude.{codes, pos, ℤ}
-use Rattle.hv_exec.specs.declared.inst.Inst.{Inst}
 use Rattle.hv_isa.proofs.Words.{decoded-once}
-use Rattle.hv_isa.specs.Table.{decoded}
 use Rattle.hv_text.proofs.Fronts.{not_in}
 use Rattle.hv_text.specs.Front.{IsFree}
 use Rattle.hv_asm.specs.declared.operand.Operand.{Operand}
@@ -12,7 +10,7 @@ use Rattle.hv_asm.specs.declared.operand.Operands.{Operands}
 use Rattle.hv_asm.specs.declared.operand.Operands.TheVariants.{Nothing, One, Two, Three}
 use Rattle.hv_asm.specs.Line.{words, without_comment, IsSpelled, SpellWord, Give, Gives}
 use Rattle.hv_asm.specs.Operand.{number_value, register_text, Spells, AreSpelled}
-use Rattle.hv_asm.specs.Reading.{HasRegisters, HaveRegisters, IsBeforeComma, as_read, all_as_read, instruction_of, HasSyntax, IsWordOf}
+use Rattle.hv_asm.specs.Reading.{HasRegisters, HaveRegisters, IsBeforeComma, as_read, all_as_read, IsWordOf}
 use Rattle.hv_asm.specs.Syntax.{Syntax, syntax_of, literal}
 use Rattle.hv_asm.proofs.Lines.{found, word_read, some_words}
 use Rattle.hv_asm.proofs.Numbers.{no_register_value}

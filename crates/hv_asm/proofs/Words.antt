@@ -1,5 +1,5 @@
 -- How a text is parted into words.
-use Rattle.std.proofs.Common.{◌≡◌, ℕ, zero, suc, ◌<◌, ◌≤◌, true, false, not, List, [], ◌∷◌, ◌++◌, length, take, drop, get_or, refl, sym, ap, subst, ◌∙◌, arith, filter, take-append-drop, drop-cons, eqb, ne_eqb, eq-eqb}
+use Rattle.std.proofs.Common.{◌≡◌, ℕ, zero, suc, ◌<◌, ◌≤◌, true, false, not, List, [], ◌∷◌, ◌++◌, length, take, drop, refl, sym, ap, ◌∙◌, arith, filter, take-append-drop, eqb, ne_eqb, eq-eqb}
 use Rattle.std.specs.List.{slice_split, onto_first, prefix_len}
 use Rattle.std.proofs.lemmas.List.Splits.{slice_split-cons_yes, slice_split-cons_no}
 use Rattle.hv_text.specs.Front.{IsFree, Stops}
@@ -43,24 +43,6 @@ word_in_front [] len start some free stops = absurd (omega arith)
 word_in_front (b ∷ bs) zero start some free stops = absurd (cc (start, stops))
 word_in_front (b ∷ bs) (suc len) start some free stops =
     ap words (sym (take-append-drop (suc len) (b ∷ bs))) ∙ first_word (take (suc len) (b ∷ bs)) (drop (suc len) (b ∷ bs)) (omega arith) free stops
-
--- the words behind one more blank
-pub words_more : (text : List ℕ) (at : ℕ) → at < length text → is_blank (get_or text at 0) ≡ true → words (drop at text) ≡ words (drop (suc at) text)
-words_more text at lt is = ap words (drop-cons text at 0 lt) ∙ words-blank (get_or text at 0) (drop (suc at) text) is
-
--- a word starts at a byte that is no blank
-pub starts_here : (text : List ℕ) (at : ℕ) → at < length text → is_blank (get_or text at 0) ≡ false → StartsWord (drop at text)
-starts_here text at lt other = subst StartsWord (sym (drop-cons text at 0 lt)) other
-
--- the bytes that a search has passed
-pub no_blanks_more : (text : List ℕ) (n : ℕ) → n < length text → is_blank (get_or text n 0) ≡ false → HasNoBlanks (take n text) → HasNoBlanks (take (suc n) text)
-no_blanks_more [] n lt other free = absurd (omega arith)
-no_blanks_more (c ∷ text) zero lt other free = (other, tt)
-no_blanks_more (c ∷ text) (suc n) lt other free = (free.0, no_blanks_more text n (omega arith) other free.1)
-
--- a word stops at a blank
-pub stops_here : (text : List ℕ) (n : ℕ) → n < length text → is_blank (get_or text n 0) ≡ true → StopsWord (drop n text)
-stops_here text n lt is = subst StopsWord (sym (drop-cons text n 0 lt)) is
 
 -- the front before the first comment
 pub front_is : (text : List ℕ) (n : ℕ) → n ≤ length text → IsFree 35 (take n text) → Stops 35 (drop n text) → prefix_len (λ b. not (eqb b 35)) text ≡ n

@@ -3,6 +3,7 @@
 
 mod assembly;
 mod forms;
+mod laws;
 mod line;
 mod names;
 mod number;
@@ -16,6 +17,7 @@ mod tests;
 mod word;
 
 pub use assembly::assemble;
+pub use laws::{each_text_assembles_or_has_a_bad_line, texts_assemble_one_way};
 pub use line::read_asm;
 pub use print::print_asm;
 pub use refusal::{AsmRefusal, BadLineAsm};

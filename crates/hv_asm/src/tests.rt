@@ -239,6 +239,8 @@ fn texts_and_their_bytes(rt: HostRuntime) -> Result<(), Fail> {
         wanted.append(&word.to_le_bytes())?;
     }
     assert_eq!(rt; bytes.as_slice(), wanted.as_slice());
+    texts_assemble_one_way();
+    each_text_assembles_or_has_a_bad_line(text);
     let bad: [(&[u8], usize); 4] = [
         (b"fly x1", 1),
         (b"ecall\n\n# fly x1\nfly x1\nfly x1\n", 4),

@@ -1,5 +1,5 @@
-use Rattle.std.proofs.Common.{◌≡◌, List, ℕ, subst, sym, ◌∙◌}
-use Rattle.hv_asm.proofs.Assemblies.{AssembledTo, at_start, one_more, at_end, at_bad_line}
+use Rattle.std.proofs.Common.{List, ℕ, subst, sym, ◌∙◌}
+use Rattle.hv_asm.proofs.Assemblies.{AssembledTo, at_start, one_more}
 use Rattle.hv_asm.proofs.assembly.assemble_lines.Goals as goal
 
 pub loop-start-init : goal.loop-start-init
