@@ -26,7 +26,7 @@ number_value text =
 abbrev pub register_text : ℕ → List ℕ
 register_text number = codes "x" ++ decimal number
 
--- a number in parentheses is a register's
+-- an offset, and a register in parentheses
 abbrev pub based_text : List ℕ → ℕ → List ℕ
 based_text offset base = offset ++ (codes "(" ++ register_text base ++ codes ")")
 

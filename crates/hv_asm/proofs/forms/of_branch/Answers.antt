@@ -2,7 +2,7 @@ use Rattle.std.proofs.Common.{◌≡◌, ◌%◌, arith, true, rules, FitsSigned
 use Rattle.std.specs.Prelude.{unsigned_abs}
 use Rattle.std.proofs.lemmas.Int.{ints, to_z-of_z}
 use Rattle.hv_exec.specs.Fields.{IsOffset}
-use Rattle.hv_asm.proofs.Table.{branch_fits, fits_13}
+use Rattle.hv_asm.proofs.Ranges.{branch_fits, fits_13}
 use Rattle.hv_asm.proofs.forms.of_branch.Goals as goal
 
 pub returns-then-unsigned_abs-eq0 : goal.returns-then-unsigned_abs-eq0

@@ -1,6 +1,6 @@
 use Rattle.std.proofs.Common.{◌≡◌, arith, true, FitsSigned, w64}
 use Rattle.std.proofs.lemmas.Int.{ints, to_z-of_z}
-use Rattle.hv_asm.proofs.Table.{between_fits, fits_below}
+use Rattle.hv_asm.proofs.Ranges.{between_fits, fits_below}
 use Rattle.hv_asm.proofs.forms.of_csr_immediate.Goals as goal
 
 pub returns-then-value-lt32 : goal.returns-then-value-lt32

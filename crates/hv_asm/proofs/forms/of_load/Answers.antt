@@ -1,6 +1,6 @@
 use Rattle.std.proofs.Common.{◌≡◌, arith, true, FitsSigned, w32, w64}
 use Rattle.std.proofs.lemmas.Int.{ints, to_z-of_z}
-use Rattle.hv_asm.proofs.Table.{immediate_fits, fits_12}
+use Rattle.hv_asm.proofs.Ranges.{immediate_fits, fits_12}
 use Rattle.hv_asm.proofs.forms.of_load.Goals as goal
 
 pub returns-then-offset-lt2048 : goal.returns-then-offset-lt2048

@@ -1,7 +1,7 @@
 use Rattle.std.proofs.Common.{rules, ◌≡◌, ◌<◌, ◌^◌, false, sym, inl}
 use Rattle.std.specs.Prelude.{codes, nat_eq}
 use Rattle.std.specs.Cmp.Lexicographic.{pointwise}
-use Rattle.hv_asm.proofs.Table.{sound}
+use Rattle.hv_asm.proofs.Found.{sound}
 use Rattle.hv_asm.proofs.Lines.{only_word, no_word}
 use Rattle.hv_asm.proofs.line.word_of.Goals as goal
 
