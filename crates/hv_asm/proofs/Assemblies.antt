@@ -21,6 +21,7 @@ pub record AssembledTo (text : List ℕ) (from number : ℕ) (bytes : List ℕ) 
   pub each : AllGive lines answers
   pub bytes_are : bytes ≡ flat_map answer_bytes answers
 
+-- before the first line
 pub at_start : (text : List ℕ) → AssembledTo text 0 0 []
 at_start text = record { within = omega arith; short = omega arith; lines = []; lines_are = refl; count = refl; answers = []; each = tt; bytes_are = refl }
 
@@ -31,11 +32,13 @@ give_more [] (a ∷ answers) line answer each gives = absurd each
 give_more (l ∷ lines) [] line answer each gives = absurd each
 give_more (l ∷ lines) (a ∷ answers) line answer each gives = (each.0, give_more lines answers line answer each.1 gives)
 
+-- one more line adds its bytes
 bytes_more : (answers : List (Option ℕ)) (answer : Option ℕ) → flat_map answer_bytes (answers ++ answer ∷ []) ≡ flat_map answer_bytes answers ++ answer_bytes answer
 bytes_more [] answer = append-nil (answer_bytes answer)
 bytes_more (a ∷ answers) answer =
     ap (λ (bs : List ℕ). answer_bytes a ++ bs) (bytes_more answers answer) ∙ sym (append_assoc (answer_bytes a) (flat_map answer_bytes answers) (answer_bytes answer))
 
+-- the lines up to the next offset, where a line gives its bytes
 pub one_more : (text : List ℕ) (from number start end next : ℕ) (old new : List ℕ) → AssembledTo text from number old → IsLineAt text from start end next → AddsLine (slice_range text start end) old new → AssembledTo text next (number + 1) new
 one_more text from number start end next old new so_far at adds =
     let line = slice_range text start end in
@@ -102,6 +105,7 @@ not_among (l ∷ lines) (f ∷ front) line behind (a ∷ answers) is each bad =
     let tails : lines ≡ front ++ line ∷ behind = cc in
     not_among lines front line behind answers tails each.1 bad
 
+-- so a text with a bad line assembles to nothing
 pub not_both : (text bytes : List ℕ) (number : ℕ) → IsAssembled text bytes → HasBadLine text number → ⊥
 not_both text bytes number x y = not_among (script_lines text) y.front y.line y.behind x.answers y.lines_are x.each y.bad
 
@@ -124,6 +128,7 @@ same_front (f ∷ front) (o ∷ other) line last behind more (a ∷ answers) (b 
     let fewer = same_front front other line last behind more answers others tails x.1 y.1 bad worse in
     omega (arith, fewer)
 
+-- and has one such number
 pub one_bad_line : (text : List ℕ) (m n : ℕ) → HasBadLine text m → HasBadLine text n → m ≡ n
 one_bad_line text m n x y =
     omega (arith, x.number_is, y.number_is, same_front x.front y.front x.line y.line x.behind y.behind x.answers y.answers (sym x.lines_are ∙ y.lines_are) x.good y.good x.bad y.bad)
@@ -134,6 +139,7 @@ bytes_only text (Ok found) bytes says is = ap Ok (one_assembly text found bytes 
 bytes_only text (Err (BadAsm n)) bytes says is = absurd (not_both text bytes n is says)
 bytes_only text (Err (Memory e)) bytes says is = tt
 
+-- a text with a bad line was found to have it
 pub bad_only : (text : List ℕ) (r : Result (List ℕ) AsmRefusal) (number : ℕ) → Says text r → HasBadLine text number → IsUnlessMemory r (Err (BadAsm number))
 bad_only text (Ok found) number says is = absurd (not_both text found number says is)
 bad_only text (Err (BadAsm n)) number says is = ap (λ (k : ℕ). Err (BadAsm k)) (one_bad_line text n number says is)
@@ -145,9 +151,11 @@ pub record GoodTo (text : List ℕ) (from : ℕ) : Type 0 where
   pub bytes : List ℕ
   pub so_far : AssembledTo text from number bytes
 
+-- no lines stand before the text
 pub good_start : (text : List ℕ) → GoodTo text 0
 good_start text = record { number = 0; bytes = []; so_far = at_start text }
 
+-- one more line gives its answer
 pub good_more : (text : List ℕ) (from start end next : ℕ) (answer : Option ℕ) → GoodTo text from → IsLineAt text from start end next → Gives (slice_range text start end) answer → GoodTo text next
 good_more text from start end next answer good at gives = record {
   number = good.number + 1;
@@ -160,8 +168,10 @@ pub answer_of : {E : Type 0} (r : Result (Option ℕ) E) (P : Option ℕ → Typ
 answer_of (Ok a) P is given = (a, given)
 answer_of (Err e) P is given = absurd (cc)
 
+-- a text whose lines all give answers assembles
 pub good_end : (text : List ℕ) (from : ℕ) → GoodTo text from → script_lines (drop from text) ≡ [] → (bytes : List ℕ) × IsAssembled text bytes
 good_end text from good none = (good.bytes, at_end text from good.number good.bytes good.so_far none)
 
+-- a text has its first bad line behind good ones
 pub good_until : (text : List ℕ) (from start end next : ℕ) → GoodTo text from → IsLineAt text from start end next → IsBadLine (slice_range text start end) → (number : ℕ) × HasBadLine text number
 good_until text from start end next good at bad = (good.number + 1, at_bad_line text from good.number start end next good.bytes good.so_far at bad)

@@ -19,6 +19,7 @@ abbrev EachRow : {Made : Type 0} → (List ℕ → Made → Type 0) → List (Ro
 EachRow Holds [] = ⊤
 EachRow Holds (first ∷ rest) = Holds first.name first.made × EachRow Holds rest
 
+-- a row of the name is its first, or one of those behind it
 chosen : {Made : Type 0} (Holds : List ℕ → Made → Type 0) (name : List ℕ) (first : Row Made) (other : Option Made) (made : Made) → Holds first.name first.made → (other ≡ Some made → Holds name made) → (test : Bool) → pointwise nat_eq name first.name ≡ test → cond test (Some first.made) other ≡ Some made → Holds name made
 chosen Holds name first other made holds more true is h =
     let same : name ≡ first.name = (bytes_eq-Decides name first.name).0 is in
@@ -87,6 +88,7 @@ record MadeOfFence (name : List ℕ) (made : ℕ → ℕ → ℕ → Inst) : Typ
   syntax : (n a b : ℕ) → syntax_of (made n a b) ≡ fence name n a b
   fits : (n a b : ℕ) → HasFields b a n (2 ^ 12) → IsWellFormed (made n a b)
 
+-- each row of ecall and its kin makes what the table says
 bare_each : EachRow MadeBare bare_rows
 unfolding IsWellFormed
 bare_each = (
@@ -103,6 +105,7 @@ bare_each = (
   ),
 )
 
+-- each row of three registers does
 register_each : EachRow MadeOfRegisters register_rows
 unfolding IsWellFormed
 register_each = (
@@ -137,6 +140,7 @@ register_each = (
   ),
 )
 
+-- each row of a product or a quotient does
 product_each : EachRow MadeOfRegisters product_rows
 unfolding IsWellFormed
 product_each = (
@@ -165,6 +169,7 @@ product_each = (
   ),
 )
 
+-- each row of three registers at 32 bits does
 register_word_each : EachRow MadeOfRegisters register_word_rows
 unfolding IsWellFormed
 register_word_each = (
@@ -199,6 +204,7 @@ register_word_each = (
   ),
 )
 
+-- each row of an immediate does
 immediate_each : EachRow MadeOfImmediate immediate_rows
 unfolding IsWellFormed
 immediate_each = (
@@ -224,6 +230,7 @@ immediate_each = (
   ),
 )
 
+-- each row of a branch does
 branch_each : EachRow MadeOfBranch branch_rows
 unfolding IsWellFormed
 branch_each = (
@@ -246,6 +253,7 @@ branch_each = (
   ),
 )
 
+-- each row of a shift by six bits does
 long_shift_each : EachRow (MadeOfShift 64) long_shift_rows
 unfolding IsWellFormed
 long_shift_each = (
@@ -259,6 +267,7 @@ long_shift_each = (
   ),
 )
 
+-- each row of a shift by five bits does
 short_shift_each : EachRow (MadeOfShift 32) short_shift_rows
 unfolding IsWellFormed
 short_shift_each = (
@@ -272,6 +281,7 @@ short_shift_each = (
   ),
 )
 
+-- each row of a load does
 load_each : EachRow MadeOfBased load_rows
 unfolding IsWellFormed
 load_each = (
@@ -300,6 +310,7 @@ load_each = (
   ),
 )
 
+-- each row of a store does
 store_each : EachRow MadeOfBased store_rows
 unfolding IsWellFormed
 store_each = (
@@ -316,6 +327,7 @@ store_each = (
   ),
 )
 
+-- each row of a jump does
 jump_each : EachRow MadeOfJump jump_rows
 unfolding IsWellFormed
 jump_each = (
@@ -323,6 +335,7 @@ jump_each = (
   tt,
 )
 
+-- each row of the upper twenty bits does
 upper_each : EachRow MadeOfUpper upper_rows
 unfolding IsWellFormed
 upper_each = (
@@ -333,6 +346,7 @@ upper_each = (
   ),
 )
 
+-- each row of a CSR and two registers does
 csr_register_each : EachRow MadeOfCsrRegister csr_register_rows
 unfolding IsWellFormed
 csr_register_each = (
@@ -346,6 +360,7 @@ csr_register_each = (
   ),
 )
 
+-- each row of a CSR and a number does
 csr_immediate_each : EachRow MadeOfCsrImmediate csr_immediate_rows
 unfolding IsWellFormed
 csr_immediate_each = (
@@ -359,6 +374,7 @@ csr_immediate_each = (
   ),
 )
 
+-- each row of a fence does
 fence_each : EachRow MadeOfFence fence_rows
 unfolding IsWellFormed
 fence_each = (
@@ -380,6 +396,7 @@ record Mapped {A B : Type 0} (f : A → B) (o : Option A) (b : B) : Type 0 where
   was : o ≡ Some from
   gives : f from ≡ b
 
+-- what was made of an option was made of its value
 map_gives : {A B : Type 0} (f : A → B) (o : Option A) (b : B) → option_map f o ≡ Some b → Mapped f o b
 map_gives f None b h = absurd (cc)
 map_gives f (Some a) b h = record { from = a; was = refl; gives = cc }
@@ -389,6 +406,7 @@ record Tested {A : Type 0} (test : Bool) (o : Option A) (a : A) : Type 0 where
   is : test ≡ true
   was : o ≡ Some a
 
+-- what a test gave passed it
 test_gives : {A : Type 0} (test : Bool) (o : Option A) (a : A) → cond test o None ≡ Some a → Tested test o a
 test_gives true o a h = record { is = refl; was = h }
 test_gives false o a h = absurd (cc)
@@ -402,6 +420,7 @@ by_syntax i made s same syntax fits =
       operands_are = ap (λ (t : Syntax). all_as_read t.operands) syntax;
     })
 
+-- an instruction among rows of three registers
 rows_sound : (rows : List (Row (ℕ → ℕ → ℕ → Inst))) → EachRow MadeOfRegisters rows → (name : List ℕ) (a b c : ℕ) (i : Inst) → a < 32 → b < 32 → c < 32
     → option_map (λ (made : ℕ → ℕ → ℕ → Inst). made a b c) (named name rows) ≡ Some i → HasSyntax i name (Three (Register a) (Register b) (Register c))
 rows_sound rows each name a b c i x y z h =
@@ -409,9 +428,11 @@ rows_sound rows each name a b c i x y z h =
     let fact = named_holds MadeOfRegisters name rows each m.from m.was in
     by_syntax i (m.from a b c) (registers name a b c) m.gives (fact.syntax a b c) (fact.fits a b c (record { first_fits = x; second_fits = y; third_fits = z }))
 
+-- the instruction of three registers among rows
 abbrev registers_in : List ℕ → ℕ → ℕ → ℕ → List (Row (ℕ → ℕ → ℕ → Inst)) → Option Inst
 registers_in name a b c rows = option_map (λ made. made a b c) (named name rows)
 
+-- an instruction of three registers is one of the table
 registers_sound : (name : List ℕ) (a b c : ℕ) (i : Inst) → a < 32 → b < 32 → c < 32 → of_registers name a b c ≡ Some i → HasSyntax i name (Three (Register a) (Register b) (Register c))
 registers_sound name a b c i x y z h =
     elim (or_gives (registers_in name a b c register_rows) (option_or (registers_in name a b c product_rows) (registers_in name a b c register_word_rows)) i h) [
@@ -422,6 +443,7 @@ registers_sound name a b c i x y z h =
       ]
     ]
 
+-- so is one of an immediate
 immediate_sound : (name : List ℕ) (a b : ℕ) (z : ℤ) (i : Inst) → a < 32 → b < 32 → of_immediate name a b z ≡ Some i → HasSyntax i name (Three (Register a) (Register b) (Decimal z))
 immediate_sound name a b z i x y h =
     let t = test_gives (fits_12 z) (option_map (λ (made : ℕ → ℕ → ℤ → Inst). made a b z) (named name immediate_rows)) i h in
@@ -429,6 +451,7 @@ immediate_sound name a b z i x y h =
     let fact = named_holds MadeOfImmediate name immediate_rows immediate_each m.from m.was in
     by_syntax i (m.from a b z) (immediate name a b z) m.gives (fact.syntax a b z) (fact.fits a b z (record { first_fits = x; second_fits = y; immediate_fits = is_immediate z t.is }))
 
+-- so is a branch
 branch_sound : (name : List ℕ) (a b : ℕ) (z : ℤ) (i : Inst) → a < 32 → b < 32 → of_branch name a b z ≡ Some i → HasSyntax i name (Three (Register a) (Register b) (Decimal z))
 branch_sound name a b z i x y h =
     let t = test_gives (fits_13 z) (option_map (λ (made : ℕ → ℕ → ℤ → Inst). made a b z) (named name branch_rows)) i h in
@@ -436,6 +459,7 @@ branch_sound name a b z i x y h =
     let fact = named_holds MadeOfBranch name branch_rows branch_each m.from m.was in
     by_syntax i (m.from a b z) (immediate name a b z) m.gives (fact.syntax a b z) (fact.fits a b z (x, y, is_branch z t.is))
 
+-- so is a shift
 shift_sound : (bound : ℕ) (rows : List (Row (ℕ → ℕ → ℕ → Inst))) → EachRow (MadeOfShift bound) rows → (name : List ℕ) (a b : ℕ) (z : ℤ) (i : Inst) → a < 32 → b < 32
     → cond (fits_below bound z) (option_map (λ (made : ℕ → ℕ → ℕ → Inst). made a b (unsigned_abs z)) (named name rows)) None ≡ Some i → HasSyntax i name (Three (Register a) (Register b) (Decimal z))
 shift_sound bound rows each name a b z i x y h =
@@ -447,6 +471,7 @@ shift_sound bound rows each name a b z i x y h =
     (by_syntax i (m.from a b (unsigned_abs z)) (immediate name a b (pos (unsigned_abs z))) m.gives (fact.syntax a b (unsigned_abs z))
     (fact.fits a b (unsigned_abs z) (record { first_fits = x; second_fits = y; third_fits = below.less })))
 
+-- so is each of two registers and a number
 number_sound : (name : List ℕ) (a b : ℕ) (z : ℤ) (i : Inst) → a < 32 → b < 32 → of_number name a b z ≡ Some i → HasSyntax i name (Three (Register a) (Register b) (Decimal z))
 number_sound name a b z i x y h =
     elim (or_gives (of_immediate name a b z) (option_or (of_branch name a b z) (option_or (of_long_shift name a b z) (of_short_shift name a b z))) i h) [
@@ -460,6 +485,7 @@ number_sound name a b z i x y h =
       ]
     ]
 
+-- so is a load and a store
 based_sound : (rows : List (Row (ℕ → ℤ → ℕ → Inst))) → EachRow MadeOfBased rows → (name : List ℕ) (a : ℕ) (z : ℤ) (b : ℕ) (i : Inst) → a < 32 → b < 32
     → cond (fits_12 z) (option_map (λ (made : ℕ → ℤ → ℕ → Inst). made a z b) (named name rows)) None ≡ Some i → HasSyntax i name (Two (Register a) (Based z b))
 based_sound rows each name a z b i x y h =
@@ -468,6 +494,7 @@ based_sound rows each name a z b i x y h =
     let fact = named_holds MadeOfBased name rows each m.from m.was in
     by_syntax i (m.from a z b) (based name a z b) m.gives (fact.syntax a z b) (fact.fits a z b (x, y, is_immediate z t.is))
 
+-- so is a jump
 jump_sound : (name : List ℕ) (a : ℕ) (z : ℤ) (i : Inst) → a < 32 → of_jump name a z ≡ Some i → HasSyntax i name (Two (Register a) (Decimal z))
 jump_sound name a z i x h =
     let t = test_gives (fits_21 z) (option_map (λ (made : ℕ → ℤ → Inst). made a z) (named name jump_rows)) i h in
@@ -475,6 +502,7 @@ jump_sound name a z i x h =
     let fact = named_holds MadeOfJump name jump_rows jump_each m.from m.was in
     by_syntax i (m.from a z) (jump name a z) m.gives (fact.syntax a z) (fact.fits a z (x, is_jump z t.is))
 
+-- so is one of the upper twenty bits
 upper_sound : (name : List ℕ) (a : ℕ) (z : ℤ) (i : Inst) → a < 32 → of_upper name a z ≡ Some i → HasSyntax i name (Two (Register a) (Decimal z))
 upper_sound name a z i x h =
     let t = test_gives (fits_below 1048576 z) (option_map (λ (made : ℕ → ℕ → Inst). made a (unsigned_abs z)) (named name upper_rows)) i h in
@@ -484,6 +512,7 @@ upper_sound name a z i x h =
     subst (λ (v : ℤ). HasSyntax i name (Two (Register a) (Decimal v))) below.same
     (by_syntax i (m.from a (unsigned_abs z)) (upper name a (unsigned_abs z)) m.gives (fact.syntax a (unsigned_abs z)) (fact.fits a (unsigned_abs z) (x, below.less)))
 
+-- so is one of a CSR and two registers
 csr_register_sound : (name : List ℕ) (a : ℕ) (z : ℤ) (b : ℕ) (i : Inst) → a < 32 → b < 32 → of_csr_register name a z b ≡ Some i → HasSyntax i name (Three (Register a) (Decimal z) (Register b))
 csr_register_sound name a z b i x y h =
     let t = test_gives (fits_below 4096 z) (option_map (λ (made : ℕ → ℕ → ℕ → Inst). made a (unsigned_abs z) b) (named name csr_register_rows)) i h in
@@ -494,10 +523,12 @@ csr_register_sound name a z b i x y h =
     (by_syntax i (m.from a (unsigned_abs z) b) (csr_register name a (unsigned_abs z) b) m.gives (fact.syntax a (unsigned_abs z) b)
     (fact.fits a (unsigned_abs z) b (record { first_fits = x; second_fits = y; third_fits = below.less })))
 
+-- two tests that hold together hold each
 both_true : (one other : Bool) → (one && other) ≡ true → (one ≡ true) × (other ≡ true)
 both_true true other h = (refl, h)
 both_true false other h = absurd (cc)
 
+-- so is one of a CSR and a number
 csr_immediate_sound : (name : List ℕ) (a : ℕ) (z v : ℤ) (i : Inst) → a < 32 → of_csr_immediate name a z v ≡ Some i → HasSyntax i name (Three (Register a) (Decimal z) (Decimal v))
 csr_immediate_sound name a z v i x h =
     let t = test_gives (fits_below 4096 z && fits_below 32 v) (option_map (λ (made : ℕ → ℕ → ℕ → Inst). made a (unsigned_abs z) (unsigned_abs v)) (named name csr_immediate_rows)) i h in
@@ -511,6 +542,7 @@ csr_immediate_sound name a z v i x h =
     (by_syntax i (m.from a (unsigned_abs z) (unsigned_abs v)) (csr_immediate name a (unsigned_abs z) (unsigned_abs v)) m.gives (fact.syntax a (unsigned_abs z) (unsigned_abs v))
     (fact.fits a (unsigned_abs z) (unsigned_abs v) (record { first_fits = x; second_fits = two.less; third_fits = one.less }))))
 
+-- so is a fence
 fence_sound : (name : List ℕ) (z : ℤ) (a b : ℕ) (i : Inst) → a < 32 → b < 32 → of_fence name z a b ≡ Some i → HasSyntax i name (Three (Decimal z) (Register a) (Register b))
 fence_sound name z a b i x y h =
     let t = test_gives (fits_below 4096 z) (option_map (λ (made : ℕ → ℕ → ℕ → Inst). made (unsigned_abs z) a b) (named name fence_rows)) i h in
@@ -521,6 +553,7 @@ fence_sound name z a b i x y h =
     (by_syntax i (m.from (unsigned_abs z) a b) (fence name (unsigned_abs z) a b) m.gives (fact.syntax (unsigned_abs z) a b)
     (fact.fits (unsigned_abs z) a b (record { first_fits = y; second_fits = x; third_fits = below.less })))
 
+-- so is one without operands
 bare_sound : (name : List ℕ) (i : Inst) → named name bare_rows ≡ Some i → HasSyntax i name Nothing
 bare_sound name i h =
     let fact = named_holds MadeBare name bare_rows bare_each i h in

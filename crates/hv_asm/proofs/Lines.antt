@@ -87,6 +87,7 @@ record ReadAs (s : Syntax) (name : List ℕ) (found : Option Operands) : Type 0 
   name_is : s.name ≡ name
   operands_are : found ≡ Some (all_as_read s.operands)
 
+-- a spelled syntax is read by its name and operands
 read_as : (s : Syntax) (ws rest : List (List ℕ)) (name : List ℕ) (found : Option Operands) → ws ≡ name ∷ rest → IsExactly rest found → HaveRegisters s.operands → IsSpelled s ws → ReadAs s name found
 read_as s ws rest name found parted exact fit h =
     let both : s.name ∷ h.behind ≡ name ∷ rest = sym h.words_are ∙ parted in

@@ -30,6 +30,7 @@ record Passed (whole some : Bool) (v n : ℕ) : Type 0 where
   is_some : some ≡ true
   same : v ≡ n
 
+-- a number was read where all of its tests hold
 passed : (whole some small : Bool) (v n : ℕ) (e : NumberRefusal) → cond (whole && some) (cond small (Ok v) (Err TooLarge)) (Err e) ≡ Ok n → Passed whole some v n
 passed true true true v n e h = record { is_whole = refl; is_some = refl; same = cc }
 passed true true false v n e h = absurd (cc)
@@ -63,6 +64,7 @@ free_by_radix other text n true high apart front h =
     subst (IsFree other) (sym (front refl)) (zero_apart, ((λ is. apart (sym is)), rest))
 free_by_radix other text n false high apart front h = digits_free 10 other text (omega arith) (number_in_gives 10 0 text n h).digits
 
+-- so is the text of a number in either radix
 pub number_free : (other : ℕ) (text : List ℕ) (n : ℕ) → 16 ≤ digit_value other → other ≢ 120 → number_of text ≡ Ok n → IsFree other text
 number_free other text n high apart h =
     free_by_radix other text n (starts_with nat_eq text (48 ∷ 120 ∷ [])) high apart (begins text (48 ∷ 120 ∷ [])) h
@@ -72,10 +74,12 @@ pub record WasRead (r : Result ℕ NumberRefusal) (n : ℕ) : Type 0 where
   pub read : r ≡ Ok n
   pub fits : n < 2 ^ 32
 
+-- a number that was kept is below the bound
 within_test : (m n : ℕ) (small : Bool) → ltb m (2 ^ 32) ≡ small → cond small (Some m) None ≡ Some n → WasRead (Ok m) n
 within_test m n true is h = let same : m ≡ n = cc in record { read = ap Ok same; fits = subst (λ k. k < 2 ^ 32) same (ltb-true m (2 ^ 32) is) }
 within_test m n false is h = absurd (cc)
 
+-- a number that was kept was read and fits
 pub within_gives : (r : Result ℕ NumberRefusal) (n : ℕ) → within_word r ≡ Some n → WasRead r n
 within_gives (Ok m) n h = within_test m n (ltb m (2 ^ 32)) refl h
 within_gives (Err e) n h = absurd (cc)
@@ -97,6 +101,7 @@ value_free_by other text z false false high apart other_sign front h =
     let read = from_map (λ n. pos n) (within_word (number_of text)) z h in
     number_free other text read.0 high apart (within_gives (number_of text) read.0 read.1).read
 
+-- so is each text of a value
 pub value_free : (other : ℕ) (text : List ℕ) (z : ℤ) → 16 ≤ digit_value other → other ≢ 120 → other ≢ 45 → number_value text ≡ Some z → IsFree other text
 value_free other text z high apart other_sign h =
     value_free_by other text z (starts_with nat_eq text (codes "-0x")) (starts_with nat_eq text (codes "-")) high apart other_sign (begins text (codes "-")) h
@@ -116,6 +121,7 @@ decimal_by_radix ds n false small front plain h =
     let same : decimal (digits_value 10 ds) ≡ ds = decimal-digits_value own ds number.digits number.some plain (omega (arith, number.value)) in
     sym same ∙ ap decimal number.value
 
+-- so is each text of a number that has none
 pub decimal_from_read : (ds : List ℕ) (n : ℕ) → n < 2 ^ 32 → (get_or ds 0 0 ≡ 48 → length ds ≡ 1) → number_of ds ≡ Ok n → ds ≡ decimal n
 decimal_from_read ds n small plain h =
     decimal_by_radix ds n (starts_with nat_eq ds (48 ∷ 120 ∷ [])) small (begins ds (48 ∷ 120 ∷ [])) plain h

@@ -40,6 +40,7 @@ record IsPlainWord (text : List ℕ) : Type 0 where
   some : 0 < length text
   plain : ArePlain text
 
+-- plain texts one behind the other are plain
 plain_append : (a b : List ℕ) → ArePlain a → ArePlain b → ArePlain (a ++ b)
 plain_append [] b x y = y
 plain_append (c ∷ a) b x y = (x.0, plain_append a b x.1 y)
@@ -52,6 +53,7 @@ plain_digit d digit =
     let comment : eqb d 35 ≡ false = ne_eqb d 35 (λ is. omega (arith, ap digit_value is)) in
     rw (space, tab, comment) refl
 
+-- digits are plain
 plain_digits : (radix : ℕ) (ds : List ℕ) → radix ≤ 16 → AllDigits radix ds → ArePlain ds
 plain_digits radix [] small each = tt
 plain_digits radix (d ∷ ds) small each = (plain_digit d (omega (arith, each.0)), plain_digits radix ds small each.1)
@@ -60,6 +62,7 @@ plain_digits radix (d ∷ ds) small each = (plain_digit d (omega (arith, each.0)
 decimal_plain_word : (n : ℕ) → n < 2 ^ 64 → IsPlainWord (decimal n)
 decimal_plain_word n small = record { some = decimal_nonempty n small; plain = plain_digits 10 (decimal n) (omega arith) (decimal_is_IsNumeral n small).0.1 }
 
+-- so are signed ones
 signed_plain_word : (z : ℤ) → unsigned_abs z < 2 ^ 32 → IsPlainWord (signed_decimal z)
 signed_plain_word (pos n) small = decimal_plain_word n (omega arith)
 signed_plain_word (negsuc n) small = record { some = omega arith; plain = (refl, (decimal_plain_word (suc n) (omega arith)).plain) }
@@ -70,6 +73,7 @@ record HasDigits (ds : List ℕ) (n : ℕ) : Type 0 where
   each : AllDigits 16 ds
   value : digits_value 16 ds ≡ n
 
+-- hexadecimal digits are those of their number
 hex_digits : (n : ℕ) → n < 2 ^ 32 → HasDigits (digits 16 false n) n
 hex_digits n small =
     let d = digits_is_IsNumeral 16 false (omega arith) (omega arith) n (omega arith) in
@@ -82,12 +86,14 @@ IsSmall (Decimal value) = unsigned_abs value < 2 ^ 32
 IsSmall (Hexadecimal value) = value < 2 ^ 32
 IsSmall (Based offset base) = (unsigned_abs offset < 2 ^ 32) × (base < 32)
 
+-- the same of each operand
 abbrev AreSmall : Operands → Type 0
 AreSmall Nothing = ⊤
 AreSmall (One a) = IsSmall a
 AreSmall (Two a b) = IsSmall a × IsSmall b
 AreSmall (Three a b c) = IsSmall a × IsSmall b × IsSmall c
 
+-- the name of a register is plain
 register_plain : (n : ℕ) → n < 32 → ArePlain (register_text n)
 register_plain n small = (refl, (decimal_plain_word n (omega arith)).plain)
 
@@ -108,6 +114,7 @@ operand_plain (Based z n) small =
 with_comma : (w : List ℕ) → IsPlainWord w → IsPlainWord (w ++ codes ",")
 with_comma w h = record { some = omega (arith, h.some, length-append w (codes ",")); plain = plain_append w (codes ",") h.plain (refl, tt) }
 
+-- so are all words of operands
 operand_words_plain : (os : Operands) → AreSmall os → AllByRecursion IsPlainWord (operand_words os)
 operand_words_plain Nothing small = tt
 operand_words_plain (One a) small = (operand_plain a small, tt)
@@ -121,6 +128,7 @@ not_plain true comment h = absurd (cc)
 not_plain false true h = absurd (cc)
 not_plain false false h = (refl, refl)
 
+-- a plain text has no blanks
 no_blanks : (text : List ℕ) → ArePlain text → HasNoBlanks text
 no_blanks [] h = tt
 no_blanks (b ∷ text) h = ((not_plain (is_blank b) (eqb b 35) h.0).0, no_blanks text h.1)
@@ -138,20 +146,24 @@ words_joined (w ∷ v ∷ ws) h =
 abbrev HasNoComment : List ℕ → Type 0
 HasNoComment text = AllByRecursion (λ b. eqb b 35 ≡ false) text
 
+-- texts without comments one behind the other have none
 comment_append : (a b : List ℕ) → HasNoComment a → HasNoComment b → HasNoComment (a ++ b)
 comment_append [] b x y = y
 comment_append (c ∷ a) b x y = (x.0, comment_append a b x.1 y)
 
+-- a plain text has no comment
 no_comment : (text : List ℕ) → ArePlain text → HasNoComment text
 no_comment [] h = tt
 no_comment (b ∷ text) h = ((not_plain (is_blank b) (eqb b 35) h.0).1, no_comment text h.1)
 
+-- joined plain words have none
 joined_no_comment : (ws : List (List ℕ)) → AllByRecursion IsPlainWord ws → HasNoComment (join_with_byte 32 ws)
 joined_no_comment [] h = tt
 joined_no_comment (w ∷ []) h = no_comment w h.0.plain
 joined_no_comment (w ∷ v ∷ ws) h =
     comment_append w (32 ∷ join_with_byte 32 (v ∷ ws)) (no_comment w h.0.plain) (refl, joined_no_comment (v ∷ ws) h.1)
 
+-- a text without comment ends before its first one
 whole_front : (text : List ℕ) → HasNoComment text → prefix_len (λ b. not (eqb b 35)) text ≡ length text
 whole_front [] h = refl
 whole_front (b ∷ text) h = let here : eqb b 35 ≡ false = h.0 in rw here (omega (arith, whole_front text h.1))
@@ -169,6 +181,7 @@ and_false : (b : Bool) → (b && false) ≡ false
 and_false true = refl
 and_false false = refl
 
+-- decimal digits begin with no text that begins with a sign
 no_sign : (ds rest : List ℕ) → AllDigits 10 ds → starts_with nat_eq ds (45 ∷ rest) ≡ false
 no_sign [] rest each = refl
 no_sign (d ∷ ds) rest each = let apart : eqb 45 d ≡ false = ne_eqb 45 d (λ is. omega (arith, each.0, ap digit_value is)) in rw apart refl
@@ -185,9 +198,11 @@ no_signed_hex (d ∷ e ∷ ds) each =
 small_read : (n : ℕ) → n < 2 ^ 32 → within_word (Ok n) ≡ Some n
 small_read n small = let fits : ltb n (2 ^ 32) ≡ true = lt-ltb n (2 ^ 32) small in rw fits refl
 
+-- so is a decimal text
 decimal_read : (n : ℕ) → n < 2 ^ 32 → within_word (number_of (decimal n)) ≡ Some n
 decimal_read n small = ap within_word (number_of-decimal n (omega arith)) ∙ small_read n small
 
+-- a printed signed number has its value
 signed_read : (z : ℤ) → unsigned_abs z < 2 ^ 32 → number_value (signed_decimal z) ≡ Some z
 signed_read (pos n) small =
     let each : AllDigits 10 (decimal n) = (decimal_is_IsNumeral n (omega arith)).0.1 in
@@ -215,6 +230,7 @@ printed_spells (Decimal z) small = signed_read z small
 printed_spells (Hexadecimal v) small = hex_read (digits 16 false v) v (hex_digits v small) small
 printed_spells (Based z n) small = (signed_decimal z, refl, signed_read z small.0)
 
+-- so do the words of operands
 printed_spell : (os : Operands) → AreSmall os → AreSpelled os (operand_words os)
 printed_spell Nothing small = refl
 printed_spell (One a) small = (operand_text a, refl, printed_spells a small)
@@ -236,6 +252,7 @@ zeros_first (suc count) ds n h =
     let more = zeros_first count ds n h in
     record { some = omega arith; each = (omega arith, more.each); value = more.value }
 
+-- padded digits are those of their number
 padded_digits : (n : ℕ) → n < 2 ^ 32 → HasDigits (padded_hex n 8) n
 padded_digits n small = zeros_first (8 - length (digits 16 false n)) (digits 16 false n) n (hex_digits n small)
 
@@ -256,9 +273,11 @@ printed_literal word small =
 signed_small : (z : ℤ) → IsSigned 12 z → unsigned_abs z < 2 ^ 32
 signed_small z h = grind (arith, ints)
 
+-- so has a branch
 branch_small : (z : ℤ) → IsOffset 13 z → unsigned_abs z < 2 ^ 32
 branch_small z h = grind (arith, ints)
 
+-- so has a jump
 jump_small : (z : ℤ) → IsOffset 21 z → unsigned_abs z < 2 ^ 32
 jump_small z h = grind (arith, ints)
 
@@ -416,10 +435,12 @@ name_bytes_plain (Csrrwi a b c) = (refl, (refl, (refl, (refl, (refl, (refl, tt))
 name_bytes_plain (Csrrsi a b c) = (refl, (refl, (refl, (refl, (refl, (refl, tt))))))
 name_bytes_plain (Csrrci a b c) = (refl, (refl, (refl, (refl, (refl, (refl, tt))))))
 
+-- a text with a first byte has bytes
 some_first : (text : List ℕ) → 46 < get_or text 0 0 → 0 < length text
 some_first [] h = absurd (omega arith)
 some_first (b ∷ text) h = omega arith
 
+-- the names are plain words
 name_plain : (i : Inst) → IsPlainWord (syntax_of i).name
 name_plain i = record { some = some_first (syntax_of i).name (ltb-true 46 (get_or (syntax_of i).name 0 0) (begins_with_letter i)); plain = name_bytes_plain i }
 
@@ -431,5 +452,6 @@ stands_as word (Some inst) small is fit = record {
   spelled = inl (record { inst = inst; well_formed = fit; decodes = is; spelled = printed_syntax (syntax_of inst) (name_plain inst) (values_small inst fit) });
 }
 
+-- the printed line stands for its word
 pub text_stands : (word : ℕ) (decoding : Option Inst) → word < 2 ^ 32 → decoding ≡ decoded word → IfSome decoding (λ i. IsWellFormed i) → StandsFor (assembler_text word) word
 text_stands word decoding small is fit = subst (λ (o : Option Inst). StandsFor (text_of word o) word) is (stands_as word decoding small (sym is) fit)

@@ -10,9 +10,11 @@ use Rattle.hv_asm.specs.Reading.{is_within, is_even_within}
 abbrev pub fits_12 : ℤ → Bool
 fits_12 z = is_within (negsuc 2047) (pos 2048) z
 
+-- twelve bits pass the test
 pub immediate_fits : (z : ℤ) → IsSigned 12 z → fits_12 z ≡ true
 immediate_fits z h = grind (arith, ints)
 
+-- what passes it has twelve bits
 pub is_immediate : (z : ℤ) → fits_12 z ≡ true → IsSigned 12 z
 is_immediate z h = grind (arith, ints)
 
@@ -20,9 +22,11 @@ is_immediate z h = grind (arith, ints)
 abbrev pub fits_13 : ℤ → Bool
 fits_13 z = is_even_within (negsuc 4095) (pos 4096) z
 
+-- thirteen bits pass the test
 pub branch_fits : (z : ℤ) → IsOffset 13 z → fits_13 z ≡ true
 branch_fits z h = grind (arith, ints, nat_tests)
 
+-- what passes it has thirteen bits
 pub is_branch : (z : ℤ) → fits_13 z ≡ true → IsOffset 13 z
 is_branch z h = grind (arith, ints, nat_tests)
 
@@ -30,9 +34,11 @@ is_branch z h = grind (arith, ints, nat_tests)
 abbrev pub fits_21 : ℤ → Bool
 fits_21 z = is_even_within (negsuc 1048575) (pos 1048576) z
 
+-- twenty-one bits pass the test
 pub jump_fits : (z : ℤ) → IsOffset 21 z → fits_21 z ≡ true
 jump_fits z h = grind (arith, ints, nat_tests)
 
+-- what passes it has twenty-one bits
 pub is_jump : (z : ℤ) → fits_21 z ≡ true → IsOffset 21 z
 is_jump z h = grind (arith, ints, nat_tests)
 
@@ -40,9 +46,11 @@ is_jump z h = grind (arith, ints, nat_tests)
 abbrev pub fits_below : ℕ → ℤ → Bool
 fits_below bound z = is_within (pos 0) (pos bound) z
 
+-- a natural number below a bound passes the test
 pub below_fits : (bound n : ℕ) → n < bound → fits_below bound (pos n) ≡ true
 below_fits bound n h = grind (arith, ints, nat_tests)
 
+-- so does a number from 0 on
 pub between_fits : (bound : ℕ) (z : ℤ) → pos 0 ≤ℤ z → z <ℤ pos bound → fits_below bound z ≡ true
 between_fits bound z low high = grind (arith, ints, nat_tests)
 
@@ -51,6 +59,7 @@ pub record IsBelow (bound : ℕ) (z : ℤ) : Type 0 where
   pub less : unsigned_abs z < bound
   pub same : pos (unsigned_abs z) ≡ z
 
+-- what passes it is such a number
 pub is_below : (bound : ℕ) (z : ℤ) → fits_below bound z ≡ true → IsBelow bound z
 is_below bound (pos n) h = record { less = grind (arith, ints, nat_tests); same = refl }
 is_below bound (negsuc n) h = absurd (cc)

@@ -97,6 +97,7 @@ record HasSome (ws : List (List ℕ)) : Type 0 where
   small : HaveRegisters syntax.operands
   is : IsSpelled syntax ws
 
+-- words that spell a word have its syntax
 some_syntax : (ws : List (List ℕ)) (w : ℕ) → SpellWord ws w → HasSome ws
 some_syntax ws w h = elim h.spelled [
   | inl i ↦ record { syntax = syntax_of i.inst; small = fit_fields i.inst i.well_formed; is = i.spelled }
@@ -112,5 +113,6 @@ give_once ws (Some v) (Some w) x y =
     let s = some_syntax ws v x in
     ap Some (one_word s.syntax.name (all_as_read s.syntax.operands) v w (word_of_syntax s.syntax ws v s.small s.is x) (word_of_syntax s.syntax ws w s.small s.is y))
 
+-- so a line gives one answer
 pub gives_once : (line : List ℕ) (a b : Option ℕ) → Gives line a → Gives line b → a ≡ b
 gives_once line a b x y = give_once (words (without_comment line)) a b x y
