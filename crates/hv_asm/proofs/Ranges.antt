@@ -1,6 +1,6 @@
 -- The ranges of numbers, as tests and as facts.
 use Rattle.std.proofs.Common.{◌≡◌, ℕ, ◌<◌, Bool, true, refl, arith}
-use Rattle.std.specs.Prelude.{ℤ, pos, negsuc, ◌≤ℤ◌, ◌<ℤ◌, unsigned_abs}
+use Rattle.std.specs.Prelude.{ℤ, pos, negsuc, unsigned_abs}
 use Rattle.std.proofs.lemmas.Int.{ints}
 use Rattle.std.proofs.lemmas.Bool.Decides.{nat_tests}
 use Rattle.hv_exec.specs.Fields.{IsSigned, IsOffset}
@@ -49,10 +49,6 @@ fits_below bound z = is_within (pos 0) (pos bound) z
 -- a natural number below a bound passes the test
 pub below_fits : (bound n : ℕ) → n < bound → fits_below bound (pos n) ≡ true
 below_fits bound n h = grind (arith, ints, nat_tests)
-
--- so does a number from 0 on
-pub between_fits : (bound : ℕ) (z : ℤ) → pos 0 ≤ℤ z → z <ℤ pos bound → fits_below bound z ≡ true
-between_fits bound z low high = grind (arith, ints, nat_tests)
 
 -- is a natural number
 pub record IsBelow (bound : ℕ) (z : ℤ) : Type 0 where

@@ -2,6 +2,6 @@
 pub mod Operand
 pub mod Syntax
 pub mod Line
-pub mod Names
+pub mod Candidates
 pub mod Reading
 pub mod Assembly

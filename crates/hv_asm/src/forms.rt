@@ -2,61 +2,112 @@
 ghost use Rattle.std.specs.Prelude.{◌≡◌};
 ghost use Rattle.hv_asm.specs.Reading.{is_within, is_even_within, of_registers, of_immediate, of_branch, of_long_shift, of_short_shift, of_number, of_load, of_store, of_jump, of_upper, of_csr_register, of_csr_immediate, of_fence, instruction_of};
 
-use crate::names::{
-    bare_named, branch_named, csr_immediate_named, csr_register_named, fence_named,
-    immediate_named, jump_named, load_named, long_shift_named, product_named, register_named,
-    register_word_named, short_shift_named, store_named, upper_named,
-};
+use crate::find::find;
 use crate::operand::{Operand, Operands};
 use hv_exec::Inst;
 
-fn of_registers(name: &[u8], one: u8, two: u8, three: u8) -> Option<Inst>
-    ensures { result ≡ of_registers name.now one two three }
+fn of_registers(name: &[u8], rd: u8, rs1: u8, rs2: u8) -> Option<Inst>
+    ensures { result ≡ of_registers name.now rd rs1 rs2 }
 {
-    if let Some(inst) = register_named(name, one, two, three) {
-        return Some(inst);
-    }
-    if let Some(inst) = product_named(name, one, two, three) {
-        return Some(inst);
-    }
-    register_word_named(name, one, two, three)
+    let all = [
+        Inst::Add { rd, rs1, rs2 },
+        Inst::Sub { rd, rs1, rs2 },
+        Inst::Sll { rd, rs1, rs2 },
+        Inst::Slt { rd, rs1, rs2 },
+        Inst::Sltu { rd, rs1, rs2 },
+        Inst::Xor { rd, rs1, rs2 },
+        Inst::Srl { rd, rs1, rs2 },
+        Inst::Sra { rd, rs1, rs2 },
+        Inst::Or { rd, rs1, rs2 },
+        Inst::And { rd, rs1, rs2 },
+        Inst::Mul { rd, rs1, rs2 },
+        Inst::Mulh { rd, rs1, rs2 },
+        Inst::Mulhsu { rd, rs1, rs2 },
+        Inst::Mulhu { rd, rs1, rs2 },
+        Inst::Div { rd, rs1, rs2 },
+        Inst::Divu { rd, rs1, rs2 },
+        Inst::Rem { rd, rs1, rs2 },
+        Inst::Remu { rd, rs1, rs2 },
+        Inst::Addw { rd, rs1, rs2 },
+        Inst::Subw { rd, rs1, rs2 },
+        Inst::Sllw { rd, rs1, rs2 },
+        Inst::Srlw { rd, rs1, rs2 },
+        Inst::Sraw { rd, rs1, rs2 },
+        Inst::Mulw { rd, rs1, rs2 },
+        Inst::Divw { rd, rs1, rs2 },
+        Inst::Divuw { rd, rs1, rs2 },
+        Inst::Remw { rd, rs1, rs2 },
+        Inst::Remuw { rd, rs1, rs2 },
+    ];
+    find(name, &all)
 }
 
-fn of_immediate(name: &[u8], one: u8, two: u8, value: i64) -> Option<Inst>
-    ensures { result ≡ of_immediate name.now one two value }
+fn of_immediate(name: &[u8], rd: u8, rs1: u8, value: i64) -> Option<Inst>
+    ensures { result ≡ of_immediate name.now rd rs1 value }
 {
     if -2048 <= value && value < 2048 {
-        immediate_named(name, one, two, value as i32)
+        let imm = value as i32;
+        let all = [
+            Inst::Addi { rd, rs1, imm },
+            Inst::Slti { rd, rs1, imm },
+            Inst::Sltiu { rd, rs1, imm },
+            Inst::Xori { rd, rs1, imm },
+            Inst::Ori { rd, rs1, imm },
+            Inst::Andi { rd, rs1, imm },
+            Inst::Addiw { rd, rs1, imm },
+        ];
+        find(name, &all)
     } else {
         None
     }
 }
 
-fn of_branch(name: &[u8], one: u8, two: u8, value: i64) -> Option<Inst>
-    ensures { result ≡ of_branch name.now one two value }
+fn of_branch(name: &[u8], rs1: u8, rs2: u8, value: i64) -> Option<Inst>
+    ensures { result ≡ of_branch name.now rs1 rs2 value }
 {
     if -4096 <= value && value < 4096 && value.unsigned_abs() % 2 == 0 {
-        branch_named(name, one, two, value as i32)
+        let offset = value as i32;
+        let all = [
+            Inst::Beq { rs1, rs2, offset },
+            Inst::Bne { rs1, rs2, offset },
+            Inst::Blt { rs1, rs2, offset },
+            Inst::Bge { rs1, rs2, offset },
+            Inst::Bltu { rs1, rs2, offset },
+            Inst::Bgeu { rs1, rs2, offset },
+        ];
+        find(name, &all)
     } else {
         None
     }
 }
 
-fn of_long_shift(name: &[u8], one: u8, two: u8, value: i64) -> Option<Inst>
-    ensures { result ≡ of_long_shift name.now one two value }
+fn of_long_shift(name: &[u8], rd: u8, rs1: u8, value: i64) -> Option<Inst>
+    ensures { result ≡ of_long_shift name.now rd rs1 value }
 {
     if 0 <= value && value < 64 {
-        long_shift_named(name, one, two, value as u8)
+        let shamt = value as u8;
+        let all = [
+            Inst::Slli { rd, rs1, shamt },
+            Inst::Srli { rd, rs1, shamt },
+            Inst::Srai { rd, rs1, shamt },
+        ];
+        find(name, &all)
     } else {
         None
     }
 }
 
-fn of_short_shift(name: &[u8], one: u8, two: u8, value: i64) -> Option<Inst>
-    ensures { result ≡ of_short_shift name.now one two value }
+fn of_short_shift(name: &[u8], rd: u8, rs1: u8, value: i64) -> Option<Inst>
+    ensures { result ≡ of_short_shift name.now rd rs1 value }
 {
     if 0 <= value && value < 32 {
-        short_shift_named(name, one, two, value as u8)
+        let shamt = value as u8;
+        let all = [
+            Inst::Slliw { rd, rs1, shamt },
+            Inst::Srliw { rd, rs1, shamt },
+            Inst::Sraiw { rd, rs1, shamt },
+        ];
+        find(name, &all)
     } else {
         None
     }
@@ -77,71 +128,111 @@ fn of_number(name: &[u8], one: u8, two: u8, value: i64) -> Option<Inst>
     of_short_shift(name, one, two, value)
 }
 
-fn of_load(name: &[u8], one: u8, offset: i64, base: u8) -> Option<Inst>
-    ensures { result ≡ of_load name.now one offset base }
+fn of_load(name: &[u8], rd: u8, offset: i64, rs1: u8) -> Option<Inst>
+    ensures { result ≡ of_load name.now rd offset rs1 }
 {
     if -2048 <= offset && offset < 2048 {
-        load_named(name, one, offset as i32, base)
+        let imm = offset as i32;
+        let all = [
+            Inst::Jalr { rd, rs1, imm },
+            Inst::Lb { rd, rs1, imm },
+            Inst::Lh { rd, rs1, imm },
+            Inst::Lw { rd, rs1, imm },
+            Inst::Ld { rd, rs1, imm },
+            Inst::Lbu { rd, rs1, imm },
+            Inst::Lhu { rd, rs1, imm },
+            Inst::Lwu { rd, rs1, imm },
+        ];
+        find(name, &all)
     } else {
         None
     }
 }
 
-fn of_store(name: &[u8], one: u8, offset: i64, base: u8) -> Option<Inst>
-    ensures { result ≡ of_store name.now one offset base }
+fn of_store(name: &[u8], rs2: u8, offset: i64, rs1: u8) -> Option<Inst>
+    ensures { result ≡ of_store name.now rs2 offset rs1 }
 {
     if -2048 <= offset && offset < 2048 {
-        store_named(name, one, offset as i32, base)
+        let imm = offset as i32;
+        let all = [
+            Inst::Sb { rs1, rs2, imm },
+            Inst::Sh { rs1, rs2, imm },
+            Inst::Sw { rs1, rs2, imm },
+            Inst::Sd { rs1, rs2, imm },
+        ];
+        find(name, &all)
     } else {
         None
     }
 }
 
-fn of_jump(name: &[u8], one: u8, value: i64) -> Option<Inst>
-    ensures { result ≡ of_jump name.now one value }
+fn of_jump(name: &[u8], rd: u8, value: i64) -> Option<Inst>
+    ensures { result ≡ of_jump name.now rd value }
 {
     if -0x10_0000 <= value && value < 0x10_0000 && value.unsigned_abs() % 2 == 0 {
-        jump_named(name, one, value as i32)
+        let offset = value as i32;
+        let all = [Inst::Jal { rd, offset }];
+        find(name, &all)
     } else {
         None
     }
 }
 
-fn of_upper(name: &[u8], one: u8, value: i64) -> Option<Inst>
-    ensures { result ≡ of_upper name.now one value }
+fn of_upper(name: &[u8], rd: u8, value: i64) -> Option<Inst>
+    ensures { result ≡ of_upper name.now rd value }
 {
     if 0 <= value && value < 0x10_0000 {
-        upper_named(name, one, value as u32)
+        let imm = value as u32;
+        let all = [Inst::Lui { rd, imm }, Inst::Auipc { rd, imm }];
+        find(name, &all)
     } else {
         None
     }
 }
 
-fn of_csr_register(name: &[u8], one: u8, csr: i64, two: u8) -> Option<Inst>
-    ensures { result ≡ of_csr_register name.now one csr two }
+fn of_csr_register(name: &[u8], rd: u8, number: i64, rs1: u8) -> Option<Inst>
+    ensures { result ≡ of_csr_register name.now rd number rs1 }
 {
-    if 0 <= csr && csr < 4096 {
-        csr_register_named(name, one, csr as u16, two)
+    if 0 <= number && number < 4096 {
+        let csr = number as u16;
+        let all = [
+            Inst::Csrrw { rd, rs1, csr },
+            Inst::Csrrs { rd, rs1, csr },
+            Inst::Csrrc { rd, rs1, csr },
+        ];
+        find(name, &all)
     } else {
         None
     }
 }
 
-fn of_csr_immediate(name: &[u8], one: u8, csr: i64, value: i64) -> Option<Inst>
-    ensures { result ≡ of_csr_immediate name.now one csr value }
+fn of_csr_immediate(name: &[u8], rd: u8, number: i64, value: i64) -> Option<Inst>
+    ensures { result ≡ of_csr_immediate name.now rd number value }
 {
-    if 0 <= csr && csr < 4096 && 0 <= value && value < 32 {
-        csr_immediate_named(name, one, csr as u16, value as u8)
+    if 0 <= number && number < 4096 && 0 <= value && value < 32 {
+        let csr = number as u16;
+        let imm = value as u8;
+        let all = [
+            Inst::Csrrwi { rd, imm, csr },
+            Inst::Csrrsi { rd, imm, csr },
+            Inst::Csrrci { rd, imm, csr },
+        ];
+        find(name, &all)
     } else {
         None
     }
 }
 
-fn of_fence(name: &[u8], fields: i64, one: u8, two: u8) -> Option<Inst>
-    ensures { result ≡ of_fence name.now fields one two }
+fn of_fence(name: &[u8], value: i64, rs1: u8, rd: u8) -> Option<Inst>
+    ensures { result ≡ of_fence name.now value rs1 rd }
 {
-    if 0 <= fields && fields < 4096 {
-        fence_named(name, fields as u16, one, two)
+    if 0 <= value && value < 4096 {
+        let fields = value as u16;
+        let all = [
+            Inst::Fence { rd, rs1, fields },
+            Inst::FenceI { rd, rs1, fields },
+        ];
+        find(name, &all)
     } else {
         None
     }
@@ -198,7 +289,7 @@ pub(crate) fn instruction(name: &[u8], operands: Operands) -> Option<Inst>
     ensures { result ≡ instruction_of name.now operands }
 {
     match operands {
-        Operands::Nothing => bare_named(name),
+        Operands::Nothing => find(name, &[Inst::Ecall, Inst::Ebreak, Inst::Mret, Inst::Wfi]),
         Operands::One(_) => None,
         Operands::Two(one, two) => of_two(name, one, two),
         Operands::Three(one, two, three) => of_three(name, one, two, three),

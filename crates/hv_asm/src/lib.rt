@@ -2,10 +2,10 @@
 #![tactic(auto)]
 
 mod assembly;
+mod find;
 mod forms;
 mod laws;
 mod line;
-mod names;
 mod number;
 mod operand;
 mod operands;
