@@ -140,8 +140,15 @@ fn other_spellings(rt: HostRuntime) {
 
 #[test]
 fn lines_of_no_form(rt: HostRuntime) {
-    let cases: [&[u8]; 56] = [
+    let cases: [&[u8]; 63] = [
         b"addi x0, x31, 2048",
+        b"slliw x1, x1, -1",
+        b"sd x31, 2048(x31)",
+        b"ld x31, -2049(x31)",
+        b"csrrwi x0, 0xfff, -1",
+        b"fence -1, x31, x30",
+        b"csrrw x32, 0x0, x0",
+        b"fence 0x0, x32, x0",
         b"addi x0, x31, -2049",
         b"addi x0, x31, 0xfff",
         b"addi x0, x32, 0",
