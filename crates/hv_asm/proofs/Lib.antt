@@ -1,0 +1,10 @@
+pub mod Ranges
+pub mod Words
+pub mod Numbers
+pub mod Table
+pub mod Found
+pub mod Spelling
+pub mod Lines
+pub mod Printed
+pub mod Unique
+pub mod Assemblies

@@ -1,0 +1,7 @@
+-- The lines of assembler text, the words that they stand for, and what a text assembles to.
+pub mod Operand
+pub mod Syntax
+pub mod Line
+pub mod Candidates
+pub mod Reading
+pub mod Assembly
