@@ -5,7 +5,7 @@ use Rattle.std.specs.Cmp.Lexicographic.{pointwise}
 use Rattle.std.proofs.lemmas.List.{drop_more, drop_all}
 use Rattle.std.specs.BTreeSet.{BTreeSet, IsEmpty}
 use denote.Ref.{Bor}
-use Rattle.hv_dts.specs.declared.contents.Named.{Named}
+use Rattle.hv_dtgram.specs.declared.contents.Named.{Named}
 use Rattle.hv_dts.specs.Rules.{has_name, place_if, lesser, least, unlabelled, names_of}
 use Rattle.hv_dts.specs.Sets.{Holds}
 use Rattle.hv_dts.proofs.Twice.{holds_none, lesser_none, least_more, least_if, least_if_not}

@@ -1,9 +1,4 @@
 pub mod Printing
-pub mod Reading
-pub mod Lexing
-pub mod Gathering
-pub mod Lifting
-pub mod Found
 pub mod Twice
 pub mod Nesting
 pub mod Labels

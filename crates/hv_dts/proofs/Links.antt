@@ -11,9 +11,9 @@ use Rattle.std.proofs.lemmas.List.Folds.{find-append}
 use Rattle.hv_dts.specs.Rules.{has_name}
 use Rattle.hv_dts.specs.Resolved.{Site, is_needy, IsLeastFree, AreGiven, no_nodes, gets_number, gets_none, has_label, Numbered, number_then}
 use Rattle.hv_dts.specs.Linking.{IsSmall, some_if, names_path, without_last, following_phandle, site_here, sites_from, Gives, a_number, nothing, Leads, Opened, Stays, Steps, AreLinked}
-use Rattle.hv_dts.specs.declared.contents.Named.{Named}
-use Rattle.hv_dts.specs.declared.contents.Entry.{Entry}
-use Rattle.hv_dts.specs.declared.contents.Entry.TheVariants as entry
+use Rattle.hv_dtgram.specs.declared.contents.Named.{Named}
+use Rattle.hv_dtgram.specs.declared.contents.Entry.{Entry}
+use Rattle.hv_dtgram.specs.declared.contents.Entry.TheVariants as entry
 use Rattle.hv_dts.specs.declared.linking.Linking.{Linking}
 
 -- a value that is there stays

@@ -10,10 +10,10 @@ use Rattle.hv_dts.specs.Bytes.{is_phandle_name, phandle_number}
 use Rattle.hv_dts.specs.Rules.{lesser, least, bad_place, with_number, bad_here, numbers_after, bad_phandles}
 use Rattle.hv_dts.specs.Resolved.{used_numbers}
 use Rattle.hv_dts.specs.Sets.{HoldsNumbers}
-use Rattle.hv_dts.specs.declared.contents.Named.{Named}
-use Rattle.hv_dts.specs.declared.contents.Value.{Value}
-use Rattle.hv_dts.specs.declared.contents.Entry.{Entry}
-use Rattle.hv_dts.specs.declared.contents.Entry.TheVariants as entry
+use Rattle.hv_dtgram.specs.declared.contents.Named.{Named}
+use Rattle.hv_dtgram.specs.declared.contents.Value.{Value}
+use Rattle.hv_dtgram.specs.declared.contents.Entry.{Entry}
+use Rattle.hv_dtgram.specs.declared.contents.Entry.TheVariants as entry
 use Rattle.hv_dts.specs.declared.phandles.Phandles.{Phandles}
 use Rattle.hv_dts.proofs.Twice.{lesser_none, least_more}
 

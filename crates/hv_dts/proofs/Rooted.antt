@@ -13,17 +13,17 @@ use Rattle.hv_dtree.specs.declared.node.Node.{Node}
 use Rattle.hv_dtree.specs.declared.node.Node.TheOpen.{Node-F}
 use Rattle.hv_dtree.specs.declared.node.Node.TheViews.{roll-Node, out-roll-Node}
 use Rattle.hv_dtree.proofs.Nodes.{nodes_out}
-use Rattle.hv_dts.specs.Contents.{PropSyntax, NodesSyntax, none, node, SourceSyntax, entries_of, props_entries, nodes_entries, IsWellNamed}
+use Rattle.hv_dtgram.specs.Contents.{PropSyntax, NodesSyntax, none, node, SourceSyntax, entries_of, props_entries, nodes_entries, IsWellNamed}
 use Rattle.hv_dts.specs.Bytes.{Links, cell_bytes, cells_bytes, value_bytes, values_bytes, cells_references, value_references, values_references, no_links, is_phandle_name, number_in, number_without, phandle_number}
 use Rattle.hv_dts.specs.Rules.{has_name, place_if, lesser, least, repeated, labels_of, props_repeated, nodes_repeated, twice_named, bad_place, with_number, bad_here, numbers_after, bad_phandles, broken_rule, unlabelled_references}
 use Rattle.hv_dts.specs.Resolved.{Site, own_phandle, nodes_sites, used_numbers, is_needy, IsLeastFree, AreGiven, no_nodes, gets_number, gets_none, prop_tree, number_prop, given_first, given_next, given_behind, nodes_trees, root_tree}
-use Rattle.hv_dts.specs.declared.contents.Named.{Named}
-use Rattle.hv_dts.specs.declared.contents.Cell.{Cell}
-use Rattle.hv_dts.specs.declared.contents.Cell.TheVariants as cell
-use Rattle.hv_dts.specs.declared.contents.Value.{Value}
-use Rattle.hv_dts.specs.declared.contents.Value.TheVariants as value
-use Rattle.hv_dts.specs.declared.contents.Entry.{Entry}
-use Rattle.hv_dts.specs.declared.contents.Entry.TheVariants as entry
+use Rattle.hv_dtgram.specs.declared.contents.Named.{Named}
+use Rattle.hv_dtgram.specs.declared.contents.Cell.{Cell}
+use Rattle.hv_dtgram.specs.declared.contents.Cell.TheVariants as cell
+use Rattle.hv_dtgram.specs.declared.contents.Value.{Value}
+use Rattle.hv_dtgram.specs.declared.contents.Value.TheVariants as value
+use Rattle.hv_dtgram.specs.declared.contents.Entry.{Entry}
+use Rattle.hv_dtgram.specs.declared.contents.Entry.TheVariants as entry
 use Rattle.hv_dts.specs.declared.refusal.DtsRefusal.{DtsRefusal}
 use Rattle.hv_dts.specs.declared.refusal.DtsRefusal.TheVariants as refusal
 use Rattle.hv_dts.proofs.GoodNames.{and_both, all_from, both_nil, no_place, props_is, children_is, prop_names, Free, AllFree, Distinct, props_well, nodes_well, props_new, nodes_new, good_node, nodes_good, all_append}

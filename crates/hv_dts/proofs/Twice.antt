@@ -6,13 +6,13 @@ use Rattle.std.specs.Cmp.Lexicographic.{slice_cmp, pointwise, texts_ties}
 use Rattle.std.specs.List.{list_any}
 use Rattle.std.specs.BTreeSet.{BTreeSet, contains, IsEmpty, Updates}
 use Rattle.std.proofs.lemmas.List.{drop_more, drop_all}
-use Rattle.hv_dts.specs.Contents.{PropSyntax, NodesSyntax, none, node, SourceSyntax, entries_of, props_entries, nodes_entries}
-use Rattle.hv_dts.specs.Rules.{has_name, lesser, least, place_if, repeated, entry_labels, labels_of, props_repeated, nodes_repeated}
+use Rattle.hv_dtgram.specs.Contents.{entry_labels, PropSyntax, NodesSyntax, none, node, SourceSyntax, entries_of, props_entries, nodes_entries}
+use Rattle.hv_dts.specs.Rules.{has_name, lesser, least, place_if, repeated, labels_of, props_repeated, nodes_repeated}
 use Rattle.hv_dts.specs.Sets.{Holds, seen_after}
-use Rattle.hv_dts.specs.declared.contents.Named.{Named}
-use Rattle.hv_dts.specs.declared.contents.Value.{Value}
-use Rattle.hv_dts.specs.declared.contents.Entry.{Entry}
-use Rattle.hv_dts.specs.declared.contents.Entry.TheVariants as entry
+use Rattle.hv_dtgram.specs.declared.contents.Named.{Named}
+use Rattle.hv_dtgram.specs.declared.contents.Value.{Value}
+use Rattle.hv_dtgram.specs.declared.contents.Entry.{Entry}
+use Rattle.hv_dtgram.specs.declared.contents.Entry.TheVariants as entry
 
 -- a set with nothing in it
 pub holds_none : (set : BTreeSet (List ℕ)) → IsEmpty set → Holds set []

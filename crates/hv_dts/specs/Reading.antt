@@ -1,19 +1,13 @@
 -- Which texts are sources, the tree that a source stands for, and where a text that is none is refused.
 use Rattle.std.specs.Prelude.{◌≡◌, ℕ, List, Some, None, Result, Ok, Err}
 use Rattle.hv_dtree.specs.declared.node.Node.{Node}
-use Rattle.hv_dts.specs.Lexed.{IsBadTokenAt, IsUnexpectedIn}
-use Rattle.hv_dts.specs.Contents.{SourceSyntax, IsWritten, entries_of}
+use Rattle.hv_dtgram.specs.Lexed.{IsBadTokenAt, IsUnexpectedIn}
+use Rattle.hv_dtgram.specs.Contents.{SourceSyntax, IsWritten, entries_of}
 use Rattle.hv_dts.specs.Rules.{broken_rule}
 use Rattle.hv_dts.specs.Resolved.{IsTreeOf}
-use Rattle.hv_dts.specs.declared.contents.Entry.{Entry}
+use Rattle.hv_dtgram.specs.declared.contents.Entry.{Entry}
 use Rattle.hv_dts.specs.declared.refusal.DtsRefusal.{DtsRefusal}
 use Rattle.hv_dts.specs.declared.refusal.DtsRefusal.TheVariants as refusal
-
--- the text is a source with these entries
-pub record HasEntries (text : List ℕ) (entries : List Entry) : Type 0 where
-  pub syntax : SourceSyntax
-  pub written : IsWritten text syntax
-  pub is : entries ≡ entries_of syntax
 
 -- the text is a source that keeps the rules, and stands for this tree
 pub record IsSourceOf (text : List ℕ) (tree : Node) : Type 0 where

@@ -5,7 +5,7 @@ use Rattle.hv_dts.specs.Rules.{names_of, path_references}
 use Rattle.hv_dts.specs.Resolved.{asked_labels, used_numbers, root_tree}
 use Rattle.hv_dts.specs.Linking.{AreAsked, AreLinked}
 use Rattle.hv_dts.specs.Maps.{links_in}
-use Rattle.hv_dts.specs.declared.contents.Entry.{Entry}
+use Rattle.hv_dtgram.specs.declared.contents.Entry.{Entry}
 use Rattle.hv_dts.proofs.Standing.{stands}
 use Rattle.hv_dts.proofs.Kept.{keeps_rules}
 use Rattle.hv_dtree.specs.Nodes.{IsRoot}
