@@ -1,5 +1,5 @@
 -- What a reader of entries answers.
-use Rattle.std.proofs.Common.{◌≡◌, ℕ, List, subst, sym}
+use Rattle.std.proofs.Common.{◌≡◌, ℕ, List}
 use Rattle.std.specs.Prelude.{map}
 use Rattle.hv_dtlex.specs.declared.token.Token.{Token}
 use Rattle.hv_dtgram.specs.declared.contents.Entry.{Entry}

@@ -1,22 +1,19 @@
 -- A text whose symbols are those of a source is written with the pieces of one.
-use Rattle.std.proofs.Common.{◌≡◌, ℕ, zero, suc, Bool, true, false, List, [], ◌∷◌, ◌++◌, refl, sym, ap, subst, ◌∙◌}
-use Rattle.std.specs.Prelude.{map, Option, None}
+use Rattle.std.proofs.Common.{◌≡◌, ℕ, zero, suc, Bool, true, false, List, [], ◌∷◌, refl, sym, ap, subst, ◌∙◌}
+use Rattle.std.specs.Prelude.{map}
 use Rattle.std.specs.List.{AllByRecursion}
 use Rattle.hv_dtlex.specs.declared.token.Token.{Token}
 use Rattle.hv_dtlex.specs.declared.token.TokenKind.{TokenKind}
 use Rattle.hv_dtlex.specs.declared.token.TokenKind.TheVariants as kind
-use Rattle.hv_dtlex.specs.declared.token.Mode.TheVariants.{Name}
 use Rattle.hv_dtgram.specs.declared.symbol.Symbol.{Symbol}
 use Rattle.hv_dtgram.specs.declared.symbol.Symbol.TheVariants as on
 use Rattle.hv_dtgram.specs.declared.contents.Named.{Named}
-use Rattle.hv_dtgram.specs.declared.contents.Cell.{Cell}
 use Rattle.hv_dtgram.specs.declared.contents.Cell.TheVariants as cell
-use Rattle.hv_dtgram.specs.declared.contents.Value.{Value}
 use Rattle.hv_dtgram.specs.declared.contents.Value.TheVariants as value
 use Rattle.hv_dtgram.specs.declared.contents.Entry.{Entry}
 use Rattle.hv_dtgram.specs.declared.contents.Entry.TheVariants as entry
-use Rattle.hv_dtgram.specs.Source.{SourceValue, cells, text, bytes, path, SourceProp, SourceNodes, none, more, labels_then, prop_name, node_name, cells_then, bytes_then, value_then, further_then, values_then, prop_then, props_then, nodes_then, IsSource}
-use Rattle.hv_dtgram.specs.Lexed.{Lexes, token_text, is_prop_name, is_node_name, word_symbol, kind_symbol, symbol_of, symbols_of, IsSourceText}
+use Rattle.hv_dtgram.specs.Source.{SourceValue, cells, text, bytes, path, SourceProp, SourceNodes, none, more, labels_then, prop_name, node_name, cells_then, bytes_then, value_then, further_then, values_then, prop_then, props_then, nodes_then}
+use Rattle.hv_dtgram.specs.Lexed.{token_text, is_prop_name, is_node_name, word_symbol, kind_symbol, symbols_of, IsSourceText}
 use Rattle.hv_dtgram.specs.Contents as c
 use Rattle.hv_dtgram.specs.Contents.{Piece, PropSyntax, NodesSyntax, SourceSyntax, kind_piece, piece_of, labels_pieces, cells_pieces, bytes_pieces, value_pieces, further_pieces, values_pieces, entry_pieces, entries_pieces, source_pieces, props_entries, nodes_entries, entries_of, IsWellNamed, IsWritten}
 

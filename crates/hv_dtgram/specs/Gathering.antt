@@ -1,5 +1,5 @@
 -- How entries are gathered piece by piece.
-use Rattle.std.specs.Prelude.{ℕ, List, [], ◌∷◌, ◌++◌, Bool, true, false, if◌then◌else◌, Option, Some, None}
+use Rattle.std.specs.Prelude.{[], ◌∷◌, ◌++◌, true, false, if◌then◌else◌, Option, Some, None}
 use Rattle.hv_dtgram.specs.Contents.{Piece, mark, label, word, number, text, pair, reference}
 use Rattle.hv_dtgram.specs.declared.symbol.Symbol.TheVariants as on
 use Rattle.hv_dtgram.specs.declared.contents.Named.{Named}

@@ -1,5 +1,5 @@
 -- The names in the tree of a source keep the rules.
-use Rattle.std.proofs.Common.{◌≡◌, ◌≢◌, ℕ, zero, suc, ◌+◌, ◌<◌, ◌≤◌, Bool, true, false, cond, List, [], ◌∷◌, ◌++◌, length, take, drop, get_or, refl, sym, ap, subst, ◌∙◌, arith, inl, inr, take-append-drop}
+use Rattle.std.proofs.Common.{◌≡◌, ◌≢◌, ℕ, zero, suc, ◌+◌, ◌<◌, Bool, true, false, cond, List, [], ◌∷◌, ◌++◌, length, take, drop, refl, sym, ap, subst, ◌∙◌, arith, inl, inr, take-append-drop}
 use Rattle.std.specs.Prelude.{Option, Some, None, map, ◌⊎◌, ◌&&◌, ◌||◌, ◌==◌, nat_eq, nat_lt, codes}
 use Rattle.std.specs.List.{All, AllPairs, AllByRecursion, Contains, list_all, list_any, prefix_len, flat_map}
 use Rattle.std.specs.Char.{is_ascii_alphanumeric, IsAsciiAlphanumeric}

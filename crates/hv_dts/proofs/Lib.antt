@@ -10,3 +10,4 @@ pub mod Unique
 pub mod GoodNames
 pub mod Rooted
 pub mod Kept
+pub mod Exclusive

@@ -1,6 +1,6 @@
 -- The tree that is built from the entries of a source.
-use Rattle.std.proofs.Common.{◌≡◌, ℕ, ◌+◌, ◌<◌, ◌≤◌, List, [], ◌∷◌, ◌++◌, length, drop, get_or, refl, sym, ap, subst, ◌∙◌, arith, append_assoc, Ok, Err}
-use Rattle.std.specs.Prelude.{Option, Some, None, map, Result, IfOk}
+use Rattle.std.proofs.Common.{◌≡◌, ℕ, ◌+◌, ◌<◌, ◌≤◌, List, [], ◌∷◌, ◌++◌, length, drop, get_or, refl, sym, ap, subst, ◌∙◌, append_assoc, Ok, Err}
+use Rattle.std.specs.Prelude.{Option, map, Result, IfOk}
 use Rattle.std.proofs.lemmas.List.{drop_more, drop_all, append-nil}
 use Rattle.hv_dtree.specs.declared.node.Prop.{Prop}
 use Rattle.hv_dtree.specs.declared.node.Node.{Node}

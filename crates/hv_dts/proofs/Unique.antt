@@ -1,7 +1,7 @@
 -- A text is one source at most, and stands for one tree.
-use Rattle.std.proofs.Common.{◌≡◌, ℕ, ◌+◌, ◌<◌, ◌≤◌, Bool, true, false, List, [], ◌∷◌, ◌++◌, length, refl, sym, ap, subst, ◌∙◌, arith, inl, inr, Ok, Err}
-use Rattle.std.specs.Prelude.{Option, Some, None, map, zip, Result, IfOk, IfErr, ◌==◌}
-use Rattle.std.specs.List.{list_any, AllByRecursion}
+use Rattle.std.proofs.Common.{◌≡◌, ℕ, ◌+◌, Bool, true, false, List, [], ◌∷◌, length, refl, sym, ap, subst, ◌∙◌, arith, inl, inr, Err}
+use Rattle.std.specs.Prelude.{Option, Some, None, map, zip}
+use Rattle.std.specs.List.{AllByRecursion}
 use Rattle.std.proofs.lemmas.Bool.{cases_lt}
 use Rattle.hv_dtlex.specs.declared.token.Token.{Token}
 use Rattle.hv_dtlex.specs.declared.token.Mode.TheVariants.{Name}
@@ -16,8 +16,8 @@ use Rattle.hv_dtgram.specs.Lexed.{token_text, is_prop_name, is_node_name, word_s
 use Rattle.hv_dtgram.specs.Contents as c
 use Rattle.hv_dtgram.specs.Contents.{PropSyntax, NodesSyntax, none, node, SourceSyntax, Piece, kind_piece, piece_of, labels_pieces, cells_pieces, bytes_pieces, value_pieces, further_pieces, values_pieces, entries_pieces, source_pieces, props_entries, nodes_entries, entries_of, IsWellNamed, IsWritten}
 use Rattle.hv_dts.specs.Rules.{broken_rule}
-use Rattle.hv_dts.specs.Resolved.{Site, is_needy, IsLeastFree, AreGiven, no_nodes, gets_number, gets_none, asked_labels, used_numbers, nodes_sites, links_of, root_tree, IsTreeOf}
-use Rattle.hv_dts.specs.Reading.{IsSourceOf, Breaks, IsRefusedAs, IsOnly}
+use Rattle.hv_dts.specs.Resolved.{Site, IsLeastFree, AreGiven, gets_number, gets_none, asked_labels, used_numbers, nodes_sites, links_of, root_tree, IsTreeOf}
+use Rattle.hv_dts.specs.Reading.{IsSourceOf, IsRefusedAs, IsOnly}
 use Rattle.hv_dtgram.specs.declared.contents.Named.{Named}
 use Rattle.hv_dtgram.specs.declared.contents.Cell.{Cell}
 use Rattle.hv_dtgram.specs.declared.contents.Cell.TheVariants as cell

@@ -7,7 +7,8 @@ ghost use Rattle.hv_dtgram.specs.Contents.{SourceSyntax, entries_of};
 ghost use Rattle.hv_dts.specs.Rules.{least, twice_named, unlabelled_references, cell_references, path_references, broken_rule, names_of};
 ghost use Rattle.hv_dts.specs.Resolved.{asked_labels, used_numbers};
 ghost use Rattle.hv_dts.specs.Linking.{AreAsked};
-ghost use Rattle.hv_dts.specs.Reading.{IsRuleRefusal, IsSourceOf, IsRefusedAs, IsOnly};
+ghost use Rattle.hv_dts.specs.declared.refusal.DtsRefusal.{DtsRefusal};
+ghost use Rattle.hv_dts.specs.Reading.{IsRuleRefusal, IsSourceOf, IsRefusedAs, IsOnly, IsAnswer};
 
 use crate::build::build;
 use crate::linking::{Asked, link};
@@ -97,6 +98,9 @@ pub fn read_dts(alloc: Global, text: &[u8]) -> Result<Tree, DtsRefusal>
 
     // A refusal carries its offset.
     ensures refused { IfErr result (λ refusal. IsRefusedAs text.now refusal) }
+
+    // What refuses a text is answered, unless memory runs out.
+    ensures refuses { (refusal : DtsRefusal) → IsRefusedAs text.now refusal → IsAnswer result refusal }
 {
     match read_any(alloc, text) {
         Ok(root) => Ok(Tree::of_root(root)),

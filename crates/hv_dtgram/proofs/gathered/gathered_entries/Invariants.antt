@@ -1,4 +1,4 @@
-use Rattle.std.proofs.Common.{◌≡◌, List, drop}
+use Rattle.std.proofs.Common.{◌≡◌, drop}
 use Rattle.std.specs.Prelude.{map}
 use Rattle.hv_dtgram.specs.Contents.{piece_of}
 use Rattle.hv_dtgram.specs.Gathering.{nothing_gathered}

@@ -1,6 +1,5 @@
-use Rattle.std.proofs.Common.{◌≡◌, List, ℕ, subst, sym, ap, ◌∙◌}
+use Rattle.std.proofs.Common.{◌≡◌, List, subst, sym, ap, ◌∙◌}
 use Rattle.std.specs.List.{flat_map}
-use Rattle.std.specs.Prelude.{Option}
 use Rattle.hv_dts.specs.Rules.{names_of, path_references}
 use Rattle.hv_dts.specs.Resolved.{asked_labels, used_numbers, root_tree}
 use Rattle.hv_dts.specs.Linking.{AreAsked, AreLinked}
