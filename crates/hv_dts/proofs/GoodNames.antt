@@ -1,5 +1,5 @@
 -- The names in the tree of a source keep the rules.
-use Rattle.std.proofs.Common.{◌≡◌, ◌≢◌, ℕ, zero, suc, ◌+◌, ◌<◌, ◌≤◌, Bool, true, false, cond, List, [], ◌∷◌, ◌++◌, length, take, drop, get_or, refl, sym, ap, subst, ◌∙◌, arith, inl, inr, take-append-drop}
+use Rattle.std.proofs.Common.{◌≡◌, ◌≢◌, ℕ, zero, suc, ◌+◌, ◌<◌, Bool, true, false, cond, List, [], ◌∷◌, ◌++◌, length, take, drop, refl, sym, ap, subst, ◌∙◌, arith, inl, inr, take-append-drop}
 use Rattle.std.specs.Prelude.{Option, Some, None, map, ◌⊎◌, ◌&&◌, ◌||◌, ◌==◌, nat_eq, nat_lt, codes}
 use Rattle.std.specs.List.{All, AllPairs, AllByRecursion, Contains, list_all, list_any, prefix_len, flat_map}
 use Rattle.std.specs.Char.{is_ascii_alphanumeric, IsAsciiAlphanumeric}
@@ -17,13 +17,13 @@ use Rattle.hv_dtree.specs.declared.node.Node.{Node}
 use Rattle.hv_dtree.specs.declared.node.Node.TheOpen.{Node-F}
 use Rattle.hv_dtree.specs.declared.node.Node.TheViews.{roll-Node, out-roll-Node}
 use Rattle.hv_dtree.proofs.Nodes.{nodes_out}
-use Rattle.hv_dts.specs.Lexed.{is_node_byte, is_prop_byte, is_prop_name, is_unit_address, is_node_name}
-use Rattle.hv_dts.specs.Contents.{PropSyntax, NodesSyntax, none, node, props_entries, nodes_entries, IsWellNamed}
+use Rattle.hv_dtgram.specs.Lexed.{is_node_byte, is_prop_byte, is_prop_name, is_unit_address, is_node_name}
+use Rattle.hv_dtgram.specs.Contents.{PropSyntax, NodesSyntax, none, node, props_entries, nodes_entries, IsWellNamed}
 use Rattle.hv_dts.specs.Bytes.{Links, is_phandle_name}
 use Rattle.hv_dts.specs.Rules.{has_name, place_if, props_repeated, nodes_repeated}
 use Rattle.hv_dts.specs.Resolved.{prop_tree, number_prop, given_first, given_next, given_behind, nodes_trees}
-use Rattle.hv_dts.specs.declared.contents.Entry.{Entry}
-use Rattle.hv_dts.specs.declared.contents.Entry.TheVariants as entry
+use Rattle.hv_dtgram.specs.declared.contents.Entry.{Entry}
+use Rattle.hv_dtgram.specs.declared.contents.Entry.TheVariants as entry
 
 -- tests and the facts that they say
 pub and_both : (a b : Bool) → (a && b) ≡ true → (a ≡ true) × (b ≡ true)

@@ -1,14 +1,14 @@
 -- The tree that was built keeps the rules.
-use Rattle.std.proofs.Common.{◌≡◌, ℕ, List, [], subst, sym, ap, ◌∙◌}
-use Rattle.std.specs.Prelude.{Option, None, map}
+use Rattle.std.proofs.Common.{◌≡◌, List}
+use Rattle.std.specs.Prelude.{None}
 use Rattle.std.specs.List.{AllByRecursion, flat_map}
 use Rattle.hv_dtree.specs.Nodes.{IsRoot}
-use Rattle.hv_dts.specs.Contents.{SourceSyntax, entries_of, IsWellNamed}
+use Rattle.hv_dtgram.specs.Contents.{SourceSyntax, entries_of, IsWellNamed}
 use Rattle.hv_dts.specs.Rules.{broken_rule, names_of, path_references}
-use Rattle.hv_dts.specs.Resolved.{Site, Numbered, nodes_sites, asked_labels, used_numbers, AreGiven, root_tree}
-use Rattle.hv_dts.specs.Linking.{AreLinked, sites_from}
+use Rattle.hv_dts.specs.Resolved.{asked_labels, used_numbers, root_tree}
+use Rattle.hv_dts.specs.Linking.{AreLinked}
 use Rattle.hv_dts.specs.Maps.{links_in}
-use Rattle.hv_dts.specs.declared.contents.Entry.{Entry}
+use Rattle.hv_dtgram.specs.declared.contents.Entry.{Entry}
 use Rattle.hv_dts.specs.declared.linking.Linking.{Linking}
 use Rattle.hv_dts.proofs.Standing.{given_are}
 use Rattle.hv_dts.proofs.Rooted.{rooted}

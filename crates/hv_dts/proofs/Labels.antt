@@ -1,14 +1,14 @@
 -- Sets of names, and references that lack a label.
-use Rattle.std.proofs.Common.{◌≡◌, ℕ, ◌+◌, ◌<◌, ◌≤◌, Bool, true, false, List, [], ◌∷◌, ◌++◌, length, drop, get_or, refl, sym, ap, subst, ◌∙◌, arith}
-use Rattle.std.specs.Prelude.{Option, Some, None, map, not, ◌||◌, nat_eq}
+use Rattle.std.proofs.Common.{◌≡◌, ℕ, ◌+◌, ◌<◌, ◌≤◌, Bool, true, false, List, [], ◌∷◌, length, drop, get_or, refl, sym, ap, ◌∙◌}
+use Rattle.std.specs.Prelude.{Option, map, not, ◌||◌, nat_eq}
 use Rattle.std.specs.Cmp.Lexicographic.{pointwise}
 use Rattle.std.proofs.lemmas.List.{drop_more, drop_all}
 use Rattle.std.specs.BTreeSet.{BTreeSet, IsEmpty}
 use denote.Ref.{Bor}
-use Rattle.hv_dts.specs.declared.contents.Named.{Named}
+use Rattle.hv_dtgram.specs.declared.contents.Named.{Named}
 use Rattle.hv_dts.specs.Rules.{has_name, place_if, lesser, least, unlabelled, names_of}
 use Rattle.hv_dts.specs.Sets.{Holds}
-use Rattle.hv_dts.proofs.Twice.{holds_none, lesser_none, least_more, least_if, least_if_not}
+use Rattle.hv_dts.proofs.Twice.{holds_none, lesser_none, least_more}
 
 abbrev pub lent : List (Bor Named) → List Named
 lent names = map (λ it. it.now) names

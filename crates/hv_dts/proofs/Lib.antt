@@ -1,9 +1,4 @@
 pub mod Printing
-pub mod Reading
-pub mod Lexing
-pub mod Gathering
-pub mod Lifting
-pub mod Found
 pub mod Twice
 pub mod Nesting
 pub mod Labels
@@ -15,3 +10,4 @@ pub mod Unique
 pub mod GoodNames
 pub mod Rooted
 pub mod Kept
+pub mod Exclusive

@@ -1,19 +1,19 @@
 -- Labels and nodes that are noted one after the other.
-use Rattle.std.proofs.Common.{◌≡◌, ℕ, ◌+◌, ◌<◌, ◌≤◌, Bool, true, false, cond, List, [], ◌∷◌, ◌++◌, length, drop, get_or, refl, sym, ap, subst, ◌∙◌, arith, append_assoc}
+use Rattle.std.proofs.Common.{◌≡◌, ℕ, ◌+◌, ◌<◌, ◌≤◌, Bool, true, false, cond, List, [], ◌∷◌, ◌++◌, length, drop, get_or, refl, sym, ap, subst, ◌∙◌, append_assoc}
 use Rattle.std.specs.Prelude.{Option, Some, None, map, not, is_some, ◌&&◌, ◌||◌, nat_eq, MatchOption}
 use Rattle.std.specs.Ordering.{nat_cmp, is_eq}
-use Rattle.std.specs.Option.{option_map, option_or, unwrap_or}
+use Rattle.std.specs.Option.{option_map, option_or}
 use Rattle.std.specs.List.{list_any, find, AllByRecursion}
 use Rattle.std.specs.Cmp.Lexicographic.{slice_cmp, pointwise, texts_ties, bytes_decides}
 use Rattle.std.specs.BTreeMap.{BTreeMap, get}
 use Rattle.std.proofs.lemmas.List.{drop_more, drop_all, append-nil, map-append}
 use Rattle.std.proofs.lemmas.List.Folds.{find-append}
 use Rattle.hv_dts.specs.Rules.{has_name}
-use Rattle.hv_dts.specs.Resolved.{Site, is_needy, IsLeastFree, AreGiven, no_nodes, gets_number, gets_none, has_label, Numbered, number_then}
-use Rattle.hv_dts.specs.Linking.{IsSmall, some_if, names_path, without_last, following_phandle, site_here, sites_from, Gives, a_number, nothing, Leads, Opened, Stays, Steps, AreLinked}
-use Rattle.hv_dts.specs.declared.contents.Named.{Named}
-use Rattle.hv_dts.specs.declared.contents.Entry.{Entry}
-use Rattle.hv_dts.specs.declared.contents.Entry.TheVariants as entry
+use Rattle.hv_dts.specs.Resolved.{Site, is_needy, AreGiven, no_nodes, gets_number, gets_none, has_label, Numbered, number_then}
+use Rattle.hv_dts.specs.Linking.{IsSmall, some_if, without_last, site_here, sites_from, Gives, a_number, nothing, Leads, Steps, AreLinked}
+use Rattle.hv_dtgram.specs.declared.contents.Named.{Named}
+use Rattle.hv_dtgram.specs.declared.contents.Entry.{Entry}
+use Rattle.hv_dtgram.specs.declared.contents.Entry.TheVariants as entry
 use Rattle.hv_dts.specs.declared.linking.Linking.{Linking}
 
 -- a value that is there stays

@@ -1,14 +1,12 @@
 -- The names of members over the entries of a source.
-use Rattle.std.proofs.Common.{◌≡◌, ℕ, ◌+◌, ◌<◌, ◌≤◌, List, [], ◌∷◌, ◌++◌, length, drop, get_or, refl, sym, ap, subst, ◌∙◌, arith}
-use Rattle.std.specs.Prelude.{Option, Some, None, MatchOption}
+use Rattle.std.proofs.Common.{◌≡◌, ℕ, ◌+◌, ◌<◌, ◌≤◌, List, [], ◌∷◌, ◌++◌, length, drop, get_or, refl, sym, ap, ◌∙◌}
+use Rattle.std.specs.Prelude.{Option, Some, None}
 use Rattle.std.proofs.lemmas.List.{drop_more, drop_all}
-use Rattle.std.specs.BTreeSet.{BTreeSet}
-use Rattle.hv_dts.specs.Contents.{PropSyntax, NodesSyntax, none, node, SourceSyntax, entries_of, props_entries, nodes_entries}
+use Rattle.hv_dtgram.specs.Contents.{PropSyntax, NodesSyntax, none, node, SourceSyntax, entries_of, props_entries, nodes_entries}
 use Rattle.hv_dts.specs.Rules.{has_name, lesser, least, place_if, props_repeated, nodes_repeated}
-use Rattle.hv_dts.specs.Sets.{Holds}
-use Rattle.hv_dts.specs.Siblings.{Siblings, no_siblings, outside, next_siblings, AllHold, Follows}
-use Rattle.hv_dts.specs.declared.contents.Entry.{Entry}
-use Rattle.hv_dts.specs.declared.contents.Entry.TheVariants as entry
+use Rattle.hv_dts.specs.Siblings.{Siblings, no_siblings, next_siblings, Follows}
+use Rattle.hv_dtgram.specs.declared.contents.Entry.{Entry}
+use Rattle.hv_dtgram.specs.declared.contents.Entry.TheVariants as entry
 use Rattle.hv_dts.specs.declared.members.Members.{Members}
 use Rattle.hv_dts.proofs.Twice.{lesser_none, least_more}
 

@@ -1,19 +1,19 @@
 -- The numbers of phandles, one after the other.
-use Rattle.std.proofs.Common.{◌≡◌, ℕ, ◌+◌, ◌<◌, ◌≤◌, Bool, true, false, cond, List, [], ◌∷◌, ◌++◌, length, drop, get_or, refl, sym, ap, subst, ◌∙◌, arith, Ok, Err}
-use Rattle.std.specs.Prelude.{Option, Some, None, Result, OnOk, nat_eq}
+use Rattle.std.proofs.Common.{◌≡◌, ℕ, ◌+◌, ◌<◌, ◌≤◌, true, List, [], ◌∷◌, length, drop, get_or, refl, sym, ap, subst, ◌∙◌, Ok, Err}
+use Rattle.std.specs.Prelude.{Option, Some, None, Result, OnOk}
 use Rattle.std.specs.Ordering.{nat_cmp, is_eq}
 use Rattle.std.specs.List.{fold, list_any}
 use Rattle.std.proofs.lemmas.List.{drop_more, drop_all}
 use Rattle.std.proofs.lemmas.Bool.{cond-true}
-use Rattle.std.specs.BTreeSet.{BTreeSet, IsEmpty}
+use Rattle.std.specs.BTreeSet.{IsEmpty}
 use Rattle.hv_dts.specs.Bytes.{is_phandle_name, phandle_number}
 use Rattle.hv_dts.specs.Rules.{lesser, least, bad_place, with_number, bad_here, numbers_after, bad_phandles}
 use Rattle.hv_dts.specs.Resolved.{used_numbers}
 use Rattle.hv_dts.specs.Sets.{HoldsNumbers}
-use Rattle.hv_dts.specs.declared.contents.Named.{Named}
-use Rattle.hv_dts.specs.declared.contents.Value.{Value}
-use Rattle.hv_dts.specs.declared.contents.Entry.{Entry}
-use Rattle.hv_dts.specs.declared.contents.Entry.TheVariants as entry
+use Rattle.hv_dtgram.specs.declared.contents.Named.{Named}
+use Rattle.hv_dtgram.specs.declared.contents.Value.{Value}
+use Rattle.hv_dtgram.specs.declared.contents.Entry.{Entry}
+use Rattle.hv_dtgram.specs.declared.contents.Entry.TheVariants as entry
 use Rattle.hv_dts.specs.declared.phandles.Phandles.{Phandles}
 use Rattle.hv_dts.proofs.Twice.{lesser_none, least_more}
 

@@ -1,30 +1,29 @@
 -- The phandles in the tree of a source keep the rules, and so the tree does.
-use Rattle.std.proofs.Common.{◌≡◌, ◌≢◌, ℕ, zero, suc, ◌+◌, ◌*◌, ◌/◌, ◌%◌, ◌^◌, ◌<◌, ◌≤◌, Bool, true, false, cond, List, [], ◌∷◌, ◌++◌, length, refl, sym, ap, subst, ◌∙◌, arith, inl, inr, append_assoc}
+use Rattle.std.proofs.Common.{◌≡◌, ◌≢◌, ℕ, ◌+◌, ◌*◌, ◌/◌, ◌%◌, ◌^◌, ◌<◌, ◌≤◌, Bool, true, false, cond, List, [], ◌∷◌, ◌++◌, length, refl, sym, ap, subst, ◌∙◌, arith, inl, inr, append_assoc}
 use Rattle.std.specs.Prelude.{Option, Some, None, IfSome, map, ◌⊎◌, ◌&&◌, ◌||◌, not, is_some, ◌==◌, nat_eq, nat_lt, codes}
 use Rattle.std.specs.Option.{option_map, option_and_then, option_or}
-use Rattle.std.specs.List.{All, AllPairs, AllByRecursion, list_any, flat_map, find, fold, filter_map, cons_option}
+use Rattle.std.specs.List.{All, AllPairs, AllByRecursion, list_any, flat_map, find, fold, cons_option}
 use Rattle.std.specs.Cmp.Lexicographic.{pointwise}
 use Rattle.std.proofs.lemmas.Bool.{ltb-true, eqb-true, eq-eqb}
 use Rattle.std.proofs.lemmas.List.{append-nil}
 use Rattle.std.proofs.lemmas.List.Kept.{AllPairs-cons}
-use Rattle.hv_dtree.specs.Nodes.{name_of, props_of, children_of, nodes_of, big_endian, IsPhandle, value_among, prop_value, phandles_of, HasGoodNames, IsRoot}
+use Rattle.hv_dtree.specs.Nodes.{nodes_of, big_endian, IsPhandle, value_among, prop_value, phandles_of, HasGoodNames, IsRoot}
 use Rattle.hv_dtree.specs.declared.node.Prop.{Prop}
 use Rattle.hv_dtree.specs.declared.node.Node.{Node}
 use Rattle.hv_dtree.specs.declared.node.Node.TheOpen.{Node-F}
 use Rattle.hv_dtree.specs.declared.node.Node.TheViews.{roll-Node, out-roll-Node}
 use Rattle.hv_dtree.proofs.Nodes.{nodes_out}
-use Rattle.hv_dts.specs.Contents.{PropSyntax, NodesSyntax, none, node, SourceSyntax, entries_of, props_entries, nodes_entries, IsWellNamed}
+use Rattle.hv_dtgram.specs.Contents.{PropSyntax, NodesSyntax, none, node, SourceSyntax, entries_of, props_entries, nodes_entries, IsWellNamed}
 use Rattle.hv_dts.specs.Bytes.{Links, cell_bytes, cells_bytes, value_bytes, values_bytes, cells_references, value_references, values_references, no_links, is_phandle_name, number_in, number_without, phandle_number}
-use Rattle.hv_dts.specs.Rules.{has_name, place_if, lesser, least, repeated, labels_of, props_repeated, nodes_repeated, twice_named, bad_place, with_number, bad_here, numbers_after, bad_phandles, broken_rule, unlabelled_references}
-use Rattle.hv_dts.specs.Resolved.{Site, own_phandle, nodes_sites, used_numbers, is_needy, IsLeastFree, AreGiven, no_nodes, gets_number, gets_none, prop_tree, number_prop, given_first, given_next, given_behind, nodes_trees, root_tree}
-use Rattle.hv_dts.specs.declared.contents.Named.{Named}
-use Rattle.hv_dts.specs.declared.contents.Cell.{Cell}
-use Rattle.hv_dts.specs.declared.contents.Cell.TheVariants as cell
-use Rattle.hv_dts.specs.declared.contents.Value.{Value}
-use Rattle.hv_dts.specs.declared.contents.Value.TheVariants as value
-use Rattle.hv_dts.specs.declared.contents.Entry.{Entry}
-use Rattle.hv_dts.specs.declared.contents.Entry.TheVariants as entry
-use Rattle.hv_dts.specs.declared.refusal.DtsRefusal.{DtsRefusal}
+use Rattle.hv_dts.specs.Rules.{has_name, place_if, lesser, least, repeated, labels_of, props_repeated, nodes_repeated, twice_named, bad_place, with_number, bad_here, numbers_after, bad_phandles, broken_rule}
+use Rattle.hv_dts.specs.Resolved.{Site, own_phandle, nodes_sites, used_numbers, is_needy, IsLeastFree, AreGiven, gets_number, gets_none, prop_tree, number_prop, given_first, given_next, given_behind, nodes_trees, root_tree}
+use Rattle.hv_dtgram.specs.declared.contents.Named.{Named}
+use Rattle.hv_dtgram.specs.declared.contents.Cell.{Cell}
+use Rattle.hv_dtgram.specs.declared.contents.Cell.TheVariants as cell
+use Rattle.hv_dtgram.specs.declared.contents.Value.{Value}
+use Rattle.hv_dtgram.specs.declared.contents.Value.TheVariants as value
+use Rattle.hv_dtgram.specs.declared.contents.Entry.{Entry}
+use Rattle.hv_dtgram.specs.declared.contents.Entry.TheVariants as entry
 use Rattle.hv_dts.specs.declared.refusal.DtsRefusal.TheVariants as refusal
 use Rattle.hv_dts.proofs.GoodNames.{and_both, all_from, both_nil, no_place, props_is, children_is, prop_names, Free, AllFree, Distinct, props_well, nodes_well, props_new, nodes_new, good_node, nodes_good, all_append}
 

@@ -1,27 +1,26 @@
 -- What a source stands for, from what was found among its entries.
 use Rattle.std.proofs.Common.{◌≡◌, ℕ, Bool, true, false, cond, List, [], ◌∷◌, ◌++◌, refl, sym, ap, subst, ◌∙◌, append_assoc}
 use Rattle.std.specs.Prelude.{Option, Some, None, map, zip, nat_eq, ◌||◌}
-use Rattle.std.specs.Ordering.{nat_cmp}
-use Rattle.std.specs.Option.{option_map, option_and_then, unwrap_or}
+use Rattle.std.specs.Option.{option_and_then, unwrap_or}
 use Rattle.std.specs.List.{AllByRecursion, find, flat_map}
 use Rattle.std.specs.Cmp.Lexicographic.{pointwise, bytes_decides}
 use Rattle.std.proofs.lemmas.List.{append-nil}
 use Rattle.std.proofs.lemmas.Grind.{flat_map-append}
 use Rattle.hv_dtree.specs.declared.node.Node.{Node}
-use Rattle.hv_dts.specs.Contents.{PropSyntax, NodesSyntax, none, node, SourceSyntax, entries_of, props_entries, nodes_entries}
-use Rattle.hv_dts.specs.Bytes.{Links, cell_bytes, cells_bytes, value_bytes, values_bytes, paths_references, is_phandle_name, phandle_number}
+use Rattle.hv_dtgram.specs.Contents.{PropSyntax, NodesSyntax, none, node, SourceSyntax, entries_of, props_entries, nodes_entries}
+use Rattle.hv_dts.specs.Bytes.{Links, cell_bytes, cells_bytes, values_bytes, paths_references, is_phandle_name, phandle_number}
 use Rattle.hv_dts.specs.Rules.{has_name, path_references, names_of}
-use Rattle.hv_dts.specs.Resolved.{Site, own_phandle, nodes_sites, asked_labels, used_numbers, AreGiven, has_label, Numbered, number_then, links_of, root_tree, IsTreeOf}
-use Rattle.hv_dts.specs.Linking.{names_path, without_last, following_phandle, site_here, sites_from, Leads, AreLinked}
+use Rattle.hv_dts.specs.Resolved.{Site, own_phandle, nodes_sites, asked_labels, used_numbers, AreGiven, Numbered, links_of, root_tree, IsTreeOf}
+use Rattle.hv_dts.specs.Linking.{names_path, without_last, following_phandle, site_here, sites_from, AreLinked}
 use Rattle.hv_dts.specs.Building.{Built, frame_tree, nothing_built}
 use Rattle.hv_dts.specs.Maps.{links_in}
-use Rattle.hv_dts.specs.declared.contents.Named.{Named}
-use Rattle.hv_dts.specs.declared.contents.Cell.{Cell}
-use Rattle.hv_dts.specs.declared.contents.Cell.TheVariants as cell
-use Rattle.hv_dts.specs.declared.contents.Value.{Value}
-use Rattle.hv_dts.specs.declared.contents.Value.TheVariants as value
-use Rattle.hv_dts.specs.declared.contents.Entry.{Entry}
-use Rattle.hv_dts.specs.declared.contents.Entry.TheVariants as entry
+use Rattle.hv_dtgram.specs.declared.contents.Named.{Named}
+use Rattle.hv_dtgram.specs.declared.contents.Cell.{Cell}
+use Rattle.hv_dtgram.specs.declared.contents.Cell.TheVariants as cell
+use Rattle.hv_dtgram.specs.declared.contents.Value.{Value}
+use Rattle.hv_dtgram.specs.declared.contents.Value.TheVariants as value
+use Rattle.hv_dtgram.specs.declared.contents.Entry.{Entry}
+use Rattle.hv_dtgram.specs.declared.contents.Entry.TheVariants as entry
 use Rattle.hv_dts.specs.declared.linking.Linking.{Linking}
 use Rattle.hv_dts.proofs.Trees.{built_all, source_on}
 use Rattle.hv_dts.proofs.Links.{last_of}

@@ -1,16 +1,16 @@
 -- The tree that is built from the entries of a source.
-use Rattle.std.proofs.Common.{◌≡◌, ℕ, ◌+◌, ◌<◌, ◌≤◌, List, [], ◌∷◌, ◌++◌, length, drop, get_or, refl, sym, ap, subst, ◌∙◌, arith, append_assoc, Ok, Err}
-use Rattle.std.specs.Prelude.{Option, Some, None, map, Result, IfOk}
+use Rattle.std.proofs.Common.{◌≡◌, ℕ, ◌+◌, ◌<◌, ◌≤◌, List, [], ◌∷◌, ◌++◌, length, drop, get_or, refl, sym, ap, subst, ◌∙◌, append_assoc, Ok, Err}
+use Rattle.std.specs.Prelude.{Option, map, Result, IfOk}
 use Rattle.std.proofs.lemmas.List.{drop_more, drop_all, append-nil}
 use Rattle.hv_dtree.specs.declared.node.Prop.{Prop}
 use Rattle.hv_dtree.specs.declared.node.Node.{Node}
 use Rattle.hv_dtree.specs.declared.node.Node.TheViews.{roll-Node}
-use Rattle.hv_dts.specs.Contents.{PropSyntax, NodesSyntax, none, node, SourceSyntax, entries_of, props_entries, nodes_entries}
+use Rattle.hv_dtgram.specs.Contents.{PropSyntax, NodesSyntax, none, node, SourceSyntax, entries_of, props_entries, nodes_entries}
 use Rattle.hv_dts.specs.Bytes.{Links}
 use Rattle.hv_dts.specs.Resolved.{prop_tree, number_prop, given_first, given_next, given_behind, nodes_trees, root_tree}
 use Rattle.hv_dts.specs.Building.{Built, frame_tree, nothing_built, ended, next_built, Stacked, Builds}
-use Rattle.hv_dts.specs.declared.contents.Entry.{Entry}
-use Rattle.hv_dts.specs.declared.contents.Entry.TheVariants as entry
+use Rattle.hv_dtgram.specs.declared.contents.Entry.{Entry}
+use Rattle.hv_dtgram.specs.declared.contents.Entry.TheVariants as entry
 use Rattle.hv_dts.specs.declared.build.Frame.{Frame}
 use Rattle.hv_dts.specs.declared.build.Building.{Building}
 use Rattle.hv_dts.proofs.Nesting.{same_ends, not_empty}

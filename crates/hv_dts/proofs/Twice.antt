@@ -1,18 +1,16 @@
 -- Names that are noted one after the other.
 use Rattle.std.proofs.Common.{◌≡◌, ℕ, ◌+◌, ◌<◌, ◌≤◌, Bool, true, false, cond, List, [], ◌∷◌, ◌++◌, length, drop, get_or, refl, sym, ap, subst, ◌∙◌, arith, append_assoc}
-use Rattle.std.specs.Prelude.{Option, Some, None, min, nat_eq, ◌||◌, not, IfSome, MatchOption}
+use Rattle.std.specs.Prelude.{Option, Some, None, nat_eq, ◌||◌, not}
 use Rattle.std.specs.Ordering.{nat_cmp, is_eq}
 use Rattle.std.specs.Cmp.Lexicographic.{slice_cmp, pointwise, texts_ties}
 use Rattle.std.specs.List.{list_any}
 use Rattle.std.specs.BTreeSet.{BTreeSet, contains, IsEmpty, Updates}
 use Rattle.std.proofs.lemmas.List.{drop_more, drop_all}
-use Rattle.hv_dts.specs.Contents.{PropSyntax, NodesSyntax, none, node, SourceSyntax, entries_of, props_entries, nodes_entries}
-use Rattle.hv_dts.specs.Rules.{has_name, lesser, least, place_if, repeated, entry_labels, labels_of, props_repeated, nodes_repeated}
+use Rattle.hv_dtgram.specs.Contents.{entry_labels}
+use Rattle.hv_dts.specs.Rules.{has_name, lesser, least, place_if, repeated, labels_of}
 use Rattle.hv_dts.specs.Sets.{Holds, seen_after}
-use Rattle.hv_dts.specs.declared.contents.Named.{Named}
-use Rattle.hv_dts.specs.declared.contents.Value.{Value}
-use Rattle.hv_dts.specs.declared.contents.Entry.{Entry}
-use Rattle.hv_dts.specs.declared.contents.Entry.TheVariants as entry
+use Rattle.hv_dtgram.specs.declared.contents.Named.{Named}
+use Rattle.hv_dtgram.specs.declared.contents.Entry.{Entry}
 
 -- a set with nothing in it
 pub holds_none : (set : BTreeSet (List ℕ)) → IsEmpty set → Holds set []

@@ -1,36 +1,36 @@
 -- A text is one source at most, and stands for one tree.
-use Rattle.std.proofs.Common.{◌≡◌, ℕ, ◌+◌, ◌<◌, ◌≤◌, Bool, true, false, List, [], ◌∷◌, ◌++◌, length, refl, sym, ap, subst, ◌∙◌, arith, inl, inr, Ok, Err}
-use Rattle.std.specs.Prelude.{Option, Some, None, map, zip, Result, IfOk, IfErr, ◌==◌}
-use Rattle.std.specs.List.{list_any, AllByRecursion}
+use Rattle.std.proofs.Common.{◌≡◌, ℕ, ◌+◌, Bool, true, false, List, [], ◌∷◌, length, refl, sym, ap, subst, ◌∙◌, arith, inl, inr, Err}
+use Rattle.std.specs.Prelude.{Option, Some, None, map, zip}
+use Rattle.std.specs.List.{AllByRecursion}
 use Rattle.std.proofs.lemmas.Bool.{cases_lt}
 use Rattle.hv_dtlex.specs.declared.token.Token.{Token}
 use Rattle.hv_dtlex.specs.declared.token.Mode.TheVariants.{Name}
 use Rattle.hv_dtree.specs.declared.node.Node.{Node}
 use Rattle.hv_dtlex.specs.declared.token.TokenKind.{TokenKind}
 use Rattle.hv_dtlex.specs.declared.token.TokenKind.TheVariants as kind
-use Rattle.hv_dts.specs.declared.symbol.Symbol.{Symbol}
-use Rattle.hv_dts.specs.declared.symbol.Symbol.TheVariants as on
-use Rattle.hv_dts.specs.Source as g
-use Rattle.hv_dts.specs.Source.{SourceValue, SourceProp, SourceNodes, labels_then, prop_name, node_name, cells_then, bytes_then, value_then, further_then, values_then, props_then, nodes_then, IsSource}
-use Rattle.hv_dts.specs.Lexed.{token_text, is_prop_name, is_node_name, word_symbol, kind_symbol, symbols_of}
-use Rattle.hv_dts.specs.Contents as c
-use Rattle.hv_dts.specs.Contents.{PropSyntax, NodesSyntax, none, node, SourceSyntax, Piece, kind_piece, piece_of, labels_pieces, cells_pieces, bytes_pieces, value_pieces, further_pieces, values_pieces, entries_pieces, source_pieces, props_entries, nodes_entries, entries_of, IsWellNamed, IsWritten}
+use Rattle.hv_dtgram.specs.declared.symbol.Symbol.{Symbol}
+use Rattle.hv_dtgram.specs.declared.symbol.Symbol.TheVariants as on
+use Rattle.hv_dtgram.specs.Source as g
+use Rattle.hv_dtgram.specs.Source.{SourceValue, SourceProp, SourceNodes, labels_then, prop_name, node_name, cells_then, bytes_then, value_then, further_then, values_then, props_then, nodes_then, IsSource}
+use Rattle.hv_dtgram.specs.Lexed.{token_text, is_prop_name, is_node_name, word_symbol, kind_symbol, symbols_of}
+use Rattle.hv_dtgram.specs.Contents as c
+use Rattle.hv_dtgram.specs.Contents.{PropSyntax, NodesSyntax, none, node, SourceSyntax, Piece, kind_piece, piece_of, labels_pieces, cells_pieces, bytes_pieces, value_pieces, further_pieces, values_pieces, entries_pieces, source_pieces, props_entries, nodes_entries, entries_of, IsWellNamed, IsWritten}
 use Rattle.hv_dts.specs.Rules.{broken_rule}
-use Rattle.hv_dts.specs.Resolved.{Site, is_needy, IsLeastFree, AreGiven, no_nodes, gets_number, gets_none, asked_labels, used_numbers, nodes_sites, links_of, root_tree, IsTreeOf}
-use Rattle.hv_dts.specs.Reading.{IsSourceOf, Breaks, IsRefusedAs, IsRuleRefusal, IsOnly, HasEntries}
-use Rattle.hv_dts.specs.declared.contents.Named.{Named}
-use Rattle.hv_dts.specs.declared.contents.Cell.{Cell}
-use Rattle.hv_dts.specs.declared.contents.Cell.TheVariants as cell
-use Rattle.hv_dts.specs.declared.contents.Value.{Value}
-use Rattle.hv_dts.specs.declared.contents.Value.TheVariants as value
-use Rattle.hv_dts.specs.declared.contents.Entry.{Entry}
-use Rattle.hv_dts.specs.declared.contents.Entry.TheVariants as entry
+use Rattle.hv_dts.specs.Resolved.{Site, IsLeastFree, AreGiven, gets_number, gets_none, asked_labels, used_numbers, nodes_sites, links_of, root_tree, IsTreeOf}
+use Rattle.hv_dts.specs.Reading.{IsSourceOf, IsRefusedAs, IsOnly}
+use Rattle.hv_dtgram.specs.declared.contents.Named.{Named}
+use Rattle.hv_dtgram.specs.declared.contents.Cell.{Cell}
+use Rattle.hv_dtgram.specs.declared.contents.Cell.TheVariants as cell
+use Rattle.hv_dtgram.specs.declared.contents.Value.{Value}
+use Rattle.hv_dtgram.specs.declared.contents.Value.TheVariants as value
+use Rattle.hv_dtgram.specs.declared.contents.Entry.{Entry}
+use Rattle.hv_dtgram.specs.declared.contents.Entry.TheVariants as entry
 use Rattle.hv_dts.specs.declared.refusal.DtsRefusal.{DtsRefusal}
 use Rattle.hv_dts.specs.declared.refusal.DtsRefusal.TheVariants as refusal
-use Rattle.hv_dts.specs.declared.gathered.Gathered.{Gathered}
-use Rattle.hv_dts.specs.Gathering.{nothing_gathered}
-use Rattle.hv_dts.proofs.Gathering.{all_gathered, source_gathered}
-use Rattle.hv_dts.proofs.Lexing.{lexes_same, not_unexpected}
+use Rattle.hv_dtgram.specs.declared.gathered.Gathered.{Gathered}
+use Rattle.hv_dtgram.specs.Gathering.{nothing_gathered}
+use Rattle.hv_dtgram.proofs.Gathering.{all_gathered, source_gathered}
+use Rattle.hv_dtgram.proofs.Lexing.{lexes_same, not_unexpected}
 use Rattle.hv_dts.proofs.Nesting.{same_ends}
 
 -- no node begins in front
@@ -271,12 +271,3 @@ not_refused text tree (refusal.BadPhandle offset) is it =
 not_refused text tree (refusal.NoLabel offset) is it =
     let same = ap broken_rule (written_same text it.syntax is.syntax it.written is.written) in cc (same, it.broken, is.keeps)
 not_refused text tree (refusal.Memory e) is it = tt
-
--- the refusal of a rule refuses the text
-pub rule_refused : (text : List ℕ) (entries : List Entry) (refused : DtsRefusal) → HasEntries text entries → ((source : SourceSyntax) → entries ≡ entries_of source → IsRuleRefusal source refused) → IsRefusedAs text refused
-rule_refused text entries (refusal.BadToken offset) it broken = absurd (broken it.syntax it.is)
-rule_refused text entries (refusal.Unexpected offset) it broken = absurd (broken it.syntax it.is)
-rule_refused text entries (refusal.TwiceNamed offset) it broken = record { syntax = it.syntax; written = it.written; broken = broken it.syntax it.is }
-rule_refused text entries (refusal.BadPhandle offset) it broken = record { syntax = it.syntax; written = it.written; broken = broken it.syntax it.is }
-rule_refused text entries (refusal.NoLabel offset) it broken = record { syntax = it.syntax; written = it.written; broken = broken it.syntax it.is }
-rule_refused text entries (refusal.Memory e) it broken = tt

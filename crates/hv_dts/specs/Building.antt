@@ -4,8 +4,8 @@ use Rattle.hv_dtree.specs.declared.node.Node.{Node}
 use Rattle.hv_dtree.specs.declared.node.Node.TheViews.{roll-Node}
 use Rattle.hv_dts.specs.Bytes.{Links, values_bytes}
 use Rattle.hv_dts.specs.Resolved.{number_prop, given_first, given_next}
-use Rattle.hv_dts.specs.declared.contents.Entry.{Entry}
-use Rattle.hv_dts.specs.declared.contents.Entry.TheVariants as entry
+use Rattle.hv_dtgram.specs.declared.contents.Entry.{Entry}
+use Rattle.hv_dtgram.specs.declared.contents.Entry.TheVariants as entry
 use Rattle.hv_dts.specs.declared.build.Frame.{Frame}
 use Rattle.hv_dts.specs.declared.build.Building.{Building}
 

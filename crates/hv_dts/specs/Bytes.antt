@@ -2,11 +2,11 @@
 use Rattle.std.specs.Prelude.{ℕ, ◌/◌, ◌%◌, List, [], ◌∷◌, ◌++◌, length, Bool, ◌&&◌, ◌==◌, nat_eq, nat_lt, if◌then◌else◌, Option, Some, None, codes}
 use Rattle.std.specs.Cmp.Lexicographic.{pointwise}
 use Rattle.hv_dtree.specs.Nodes.{big_endian}
-use Rattle.hv_dts.specs.declared.contents.Named.{Named}
-use Rattle.hv_dts.specs.declared.contents.Cell.{Cell}
-use Rattle.hv_dts.specs.declared.contents.Cell.TheVariants as cell
-use Rattle.hv_dts.specs.declared.contents.Value.{Value}
-use Rattle.hv_dts.specs.declared.contents.Value.TheVariants as value
+use Rattle.hv_dtgram.specs.declared.contents.Named.{Named}
+use Rattle.hv_dtgram.specs.declared.contents.Cell.{Cell}
+use Rattle.hv_dtgram.specs.declared.contents.Cell.TheVariants as cell
+use Rattle.hv_dtgram.specs.declared.contents.Value.{Value}
+use Rattle.hv_dtgram.specs.declared.contents.Value.TheVariants as value
 
 -- the phandle and the path of the node that a label names
 pub record Links : Type 0 where

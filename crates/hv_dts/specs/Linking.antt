@@ -1,7 +1,7 @@
 -- What is known of labels and numbers before an entry of a source.
-use Rattle.std.specs.Prelude.{◌≡◌, ℕ, ◌+◌, List, [], ◌∷◌, ◌++◌, map, Bool, true, false, ◌==◌, if◌then◌else◌, Option, Some, None, IfSome, ◌<◌}
+use Rattle.std.specs.Prelude.{◌≡◌, ℕ, ◌+◌, List, [], ◌∷◌, ◌++◌, map, Bool, true, false, if◌then◌else◌, Option, Some, None, IfSome, ◌<◌}
 use Rattle.std.specs.Ordering.{nat_cmp}
-use Rattle.std.specs.Option.{option_map, option_or}
+use Rattle.std.specs.Option.{option_map}
 use Rattle.std.specs.List.{find, flat_map, AllByRecursion}
 use Rattle.std.specs.Cmp.Lexicographic.{slice_cmp}
 use Rattle.std.specs.BTreeMap.{get}
@@ -9,9 +9,9 @@ use Rattle.hv_dts.specs.Bytes.{is_phandle_name, phandle_number}
 use Rattle.hv_dts.specs.Rules.{has_name}
 use Rattle.hv_dts.specs.Resolved.{Site, is_needy, IsLeastFree, AreGiven, has_label, Numbered, number_then}
 use Rattle.hv_dts.specs.Sets.{Holds, HoldsNumbers}
-use Rattle.hv_dts.specs.declared.contents.Named.{Named}
-use Rattle.hv_dts.specs.declared.contents.Entry.{Entry}
-use Rattle.hv_dts.specs.declared.contents.Entry.TheVariants as entry
+use Rattle.hv_dtgram.specs.declared.contents.Named.{Named}
+use Rattle.hv_dtgram.specs.declared.contents.Entry.{Entry}
+use Rattle.hv_dtgram.specs.declared.contents.Entry.TheVariants as entry
 use Rattle.hv_dts.specs.declared.linking.Asked.{Asked}
 use Rattle.hv_dts.specs.declared.linking.Linking.{Linking}
 

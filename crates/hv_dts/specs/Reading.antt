@@ -1,19 +1,12 @@
 -- Which texts are sources, the tree that a source stands for, and where a text that is none is refused.
 use Rattle.std.specs.Prelude.{◌≡◌, ℕ, List, Some, None, Result, Ok, Err}
 use Rattle.hv_dtree.specs.declared.node.Node.{Node}
-use Rattle.hv_dts.specs.Lexed.{IsBadTokenAt, IsUnexpectedIn}
-use Rattle.hv_dts.specs.Contents.{SourceSyntax, IsWritten, entries_of}
+use Rattle.hv_dtgram.specs.Lexed.{IsBadTokenAt, IsUnexpectedIn}
+use Rattle.hv_dtgram.specs.Contents.{SourceSyntax, IsWritten}
 use Rattle.hv_dts.specs.Rules.{broken_rule}
 use Rattle.hv_dts.specs.Resolved.{IsTreeOf}
-use Rattle.hv_dts.specs.declared.contents.Entry.{Entry}
 use Rattle.hv_dts.specs.declared.refusal.DtsRefusal.{DtsRefusal}
 use Rattle.hv_dts.specs.declared.refusal.DtsRefusal.TheVariants as refusal
-
--- the text is a source with these entries
-pub record HasEntries (text : List ℕ) (entries : List Entry) : Type 0 where
-  pub syntax : SourceSyntax
-  pub written : IsWritten text syntax
-  pub is : entries ≡ entries_of syntax
 
 -- the text is a source that keeps the rules, and stands for this tree
 pub record IsSourceOf (text : List ℕ) (tree : Node) : Type 0 where
@@ -63,3 +56,14 @@ IsOnly (Err (refusal.TwiceNamed offset)) tree = ⊥
 IsOnly (Err (refusal.BadPhandle offset)) tree = ⊥
 IsOnly (Err (refusal.NoLabel offset)) tree = ⊥
 IsOnly (Err (refusal.Memory e)) tree = Unit {0}
+
+-- what refuses the text is what was answered, unless memory ran out
+abbrev pub IsAnswer : Result Node DtsRefusal → DtsRefusal → Type 0
+IsAnswer result (refusal.Memory e) = Unit {0}
+IsAnswer (Ok found) (refusal.BadToken offset) = ⊥
+IsAnswer (Ok found) (refusal.Unexpected offset) = ⊥
+IsAnswer (Ok found) (refusal.TwiceNamed offset) = ⊥
+IsAnswer (Ok found) (refusal.BadPhandle offset) = ⊥
+IsAnswer (Ok found) (refusal.NoLabel offset) = ⊥
+IsAnswer (Err (refusal.Memory e)) refused = Unit {0}
+IsAnswer (Err found) refused = found ≡ refused

@@ -6,14 +6,11 @@ use Rattle.std.specs.Cmp.Lexicographic.{pointwise}
 use Rattle.hv_dtree.specs.declared.node.Prop.{Prop}
 use Rattle.hv_dtree.specs.declared.node.Node.{Node}
 use Rattle.hv_dtree.specs.declared.node.Node.TheViews.{roll-Node}
-use Rattle.hv_dts.specs.Contents.{PropSyntax, NodesSyntax, none, node, SourceSyntax, entries_of}
-use Rattle.hv_dts.specs.Bytes.{Links, cell_bytes, values_bytes, cells_references, is_phandle_name, phandle_number}
+use Rattle.hv_dtgram.specs.Contents.{PropSyntax, NodesSyntax, none, node, SourceSyntax, entries_of}
+use Rattle.hv_dts.specs.Bytes.{Links, cell_bytes, values_bytes, is_phandle_name, phandle_number}
 use Rattle.hv_dts.specs.Rules.{has_name, names_of, cell_references, numbers_after}
-use Rattle.hv_dts.specs.declared.contents.Named.{Named}
-use Rattle.hv_dts.specs.declared.contents.Value.{Value}
-use Rattle.hv_dts.specs.declared.contents.Value.TheVariants as value
-use Rattle.hv_dts.specs.declared.contents.Entry.{Entry}
-use Rattle.hv_dts.specs.declared.contents.Entry.TheVariants as entry
+use Rattle.hv_dtgram.specs.declared.contents.Named.{Named}
+use Rattle.hv_dtgram.specs.declared.contents.Entry.{Entry}
 
 -- a node: its labels, its path, and the phandle that it has in the source
 pub record Site : Type 0 where

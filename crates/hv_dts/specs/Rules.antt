@@ -3,11 +3,11 @@ use Rattle.std.specs.Prelude.{ℕ, List, [], ◌∷◌, ◌++◌, map, min, Bool
 use Rattle.std.specs.Option.{option_map, option_or}
 use Rattle.std.specs.List.{list_any, flat_map}
 use Rattle.std.specs.Cmp.Lexicographic.{pointwise}
-use Rattle.hv_dts.specs.Contents.{PropSyntax, NodesSyntax, none, node, SourceSyntax, entries_of}
+use Rattle.hv_dtgram.specs.Contents.{PropSyntax, NodesSyntax, none, node, SourceSyntax, entries_of, entry_labels}
 use Rattle.hv_dts.specs.Bytes.{cell_lists_references, paths_references, is_phandle_name, phandle_number}
-use Rattle.hv_dts.specs.declared.contents.Named.{Named}
-use Rattle.hv_dts.specs.declared.contents.Entry.{Entry}
-use Rattle.hv_dts.specs.declared.contents.Entry.TheVariants as entry
+use Rattle.hv_dtgram.specs.declared.contents.Named.{Named}
+use Rattle.hv_dtgram.specs.declared.contents.Entry.{Entry}
+use Rattle.hv_dtgram.specs.declared.contents.Entry.TheVariants as entry
 use Rattle.hv_dts.specs.declared.refusal.DtsRefusal.{DtsRefusal}
 use Rattle.hv_dts.specs.declared.refusal.DtsRefusal.TheVariants as refusal
 
@@ -38,11 +38,6 @@ nodes_repeated earlier (node labels name props children rest) =
     place_if (has_name earlier name.name) name.place ++ (props_repeated [] props ++ (nodes_repeated [] children ++ nodes_repeated (name.name ∷ earlier) rest))
 
 -- all labels in order
-abbrev pub entry_labels : Entry → List Named
-entry_labels (entry.Property labels name values) = labels
-entry_labels (entry.Open labels name) = labels
-entry_labels entry.Close = []
-
 abbrev pub labels_of : List Entry → List Named
 labels_of entries = flat_map entry_labels entries
 

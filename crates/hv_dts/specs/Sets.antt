@@ -5,7 +5,7 @@ use Rattle.std.specs.Cmp.Lexicographic.{slice_cmp}
 use Rattle.std.specs.List.{list_any}
 use Rattle.std.specs.BTreeSet.{BTreeSet, contains}
 use Rattle.hv_dts.specs.Rules.{has_name}
-use Rattle.hv_dts.specs.declared.contents.Named.{Named}
+use Rattle.hv_dtgram.specs.declared.contents.Named.{Named}
 
 -- the set has these names
 abbrev pub Holds : BTreeSet (List ℕ) → List (List ℕ) → Type 0

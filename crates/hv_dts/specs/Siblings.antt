@@ -3,8 +3,8 @@ use Rattle.std.specs.Prelude.{◌≡◌, ℕ, List, [], ◌∷◌, ◌++◌, Opt
 use Rattle.std.specs.BTreeSet.{BTreeSet}
 use Rattle.hv_dts.specs.Rules.{has_name, lesser, least, place_if}
 use Rattle.hv_dts.specs.Sets.{Holds}
-use Rattle.hv_dts.specs.declared.contents.Entry.{Entry}
-use Rattle.hv_dts.specs.declared.contents.Entry.TheVariants as entry
+use Rattle.hv_dtgram.specs.declared.contents.Entry.{Entry}
+use Rattle.hv_dtgram.specs.declared.contents.Entry.TheVariants as entry
 use Rattle.hv_dts.specs.declared.members.Members.{Members}
 
 -- the least place of a name that stood twice, and the names of properties, of children, and of the children of the nodes around, the innermost first

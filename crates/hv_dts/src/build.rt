@@ -1,13 +1,13 @@
 //! The tree of a source.
 ghost use Rattle.std.specs.Prelude.{◌≡◌, codes, IfOk, OnOk};
-ghost use Rattle.hv_dts.specs.Contents.{SourceSyntax, entries_of};
+ghost use Rattle.hv_dtgram.specs.Contents.{SourceSyntax, entries_of};
 ghost use Rattle.hv_dts.specs.Resolved.{root_tree, given_first, given_next};
 ghost use Rattle.hv_dts.specs.Bytes.{cell_bytes};
 ghost use Rattle.hv_dts.specs.Maps.{links_in};
 ghost use Rattle.hv_dts.specs.Building.{Built, nothing_built, next_built, frame_tree, Builds};
 
-use crate::contents::Entry;
 use crate::values::{LinkMaps, cell_bytes, values_bytes};
+use hv_dtgram::Entry;
 use hv_dtree::{Items, Node, Prop};
 use hv_text::Bytes;
 use std::alloc::{AllocError, Global};

@@ -1,12 +1,9 @@
-//! Device tree source.
+//! Device tree source: the tree that a source stands for, and trees printed as source.
+//! label: a name by which references lead to a node
+//! phandle: the number of a node, which it has in the source or is given
 #![tactic(auto)]
 
 mod build;
-mod contents;
-mod entries;
-mod gathered;
-mod grammar;
-mod lexed;
 mod linking;
 mod members;
 mod names;
@@ -16,17 +13,12 @@ mod print_line;
 mod read;
 mod references;
 mod refusal;
-mod step;
-mod symbol;
-mod syntax;
 #[cfg(test)]
 mod tests;
 #[cfg(test)]
 mod tests_reading;
 mod values;
-mod word;
 
 pub use print::print_dts;
 pub use read::read_dts;
 pub use refusal::DtsRefusal;
-pub use syntax::{SyntaxRefusal, source_tokens};

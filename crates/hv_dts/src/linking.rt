@@ -10,8 +10,8 @@ ghost use Rattle.hv_dts.specs.Resolved.{Site, Numbered, IsLeastFree};
 ghost use Rattle.hv_dts.specs.Sets.{Holds, HoldsNumbers};
 ghost use Rattle.hv_dts.specs.Linking.{IsSmall, some_if, names_path, following_phandle, site_here, Gives, Leads, Opened, Steps, AreLinked, AreAsked};
 
-use crate::contents::{Entry, Named};
 use crate::values::{LinkMaps, is_phandle_name, phandle_number};
+use hv_dtgram::{Entry, Named};
 use hv_dtree::Items;
 use hv_text::Bytes;
 use std::alloc::{AllocError, Global};

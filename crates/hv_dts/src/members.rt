@@ -1,11 +1,11 @@
 //! Names of properties and children that stand twice in a node.
 ghost use Rattle.std.specs.Prelude.{◌≡◌, ◌++◌, [], IfOk, OnOk};
-ghost use Rattle.hv_dts.specs.Contents.{SourceSyntax, entries_of};
+ghost use Rattle.hv_dtgram.specs.Contents.{SourceSyntax, entries_of};
 ghost use Rattle.hv_dts.specs.Rules.{least, props_repeated, nodes_repeated};
 ghost use Rattle.hv_dts.specs.Siblings.{Siblings, next_siblings, Follows, no_siblings};
 
-use crate::contents::Entry;
 use crate::names::note_place;
+use hv_dtgram::Entry;
 use hv_text::Bytes;
 use std::alloc::{AllocError, Global};
 use std::collections::BTreeSet;

@@ -3,7 +3,7 @@ ghost use Rattle.std.specs.Prelude.{◌≡◌, ◌∷◌, ◌++◌, [], List, �
 ghost use Rattle.hv_dts.specs.Rules.{has_name, lesser, least, place_if, repeated, labels_of};
 ghost use Rattle.hv_dts.specs.Sets.{Holds, seen_after};
 
-use crate::contents::{Entry, Named};
+use hv_dtgram::{Entry, Named};
 use hv_text::Bytes;
 use std::alloc::{AllocError, Global};
 use std::collections::BTreeSet;

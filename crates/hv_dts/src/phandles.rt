@@ -4,9 +4,9 @@ ghost use Rattle.hv_dts.specs.Rules.{lesser, least, bad_place, bad_here, numbers
 ghost use Rattle.hv_dts.specs.Resolved.{used_numbers};
 ghost use Rattle.hv_dts.specs.Sets.{HoldsNumbers};
 
-use crate::contents::Entry;
 use crate::names::lesser;
 use crate::values::{is_phandle_name, phandle_number};
+use hv_dtgram::Entry;
 use std::alloc::{AllocError, Global};
 use std::collections::BTreeSet;
 

@@ -3,21 +3,21 @@ ghost use Rattle.std.specs.Prelude.{◌≡◌, List, None, map, IfOk, IfErr};
 ghost use Rattle.std.specs.List.{flat_map};
 ghost use Rattle.hv_dtree.specs.declared.node.Node.{Node};
 ghost use Rattle.hv_dtree.specs.Nodes.{IsRoot};
-ghost use Rattle.hv_dts.specs.Contents.{SourceSyntax, entries_of};
+ghost use Rattle.hv_dtgram.specs.Contents.{SourceSyntax, entries_of};
 ghost use Rattle.hv_dts.specs.Rules.{least, twice_named, unlabelled_references, cell_references, path_references, broken_rule, names_of};
 ghost use Rattle.hv_dts.specs.Resolved.{asked_labels, used_numbers};
 ghost use Rattle.hv_dts.specs.Linking.{AreAsked};
-ghost use Rattle.hv_dts.specs.Reading.{IsRuleRefusal, IsSourceOf, IsRefusedAs, IsOnly};
+ghost use Rattle.hv_dts.specs.declared.refusal.DtsRefusal.{DtsRefusal};
+ghost use Rattle.hv_dts.specs.Reading.{IsRuleRefusal, IsSourceOf, IsRefusedAs, IsOnly, IsAnswer};
 
 use crate::build::build;
-use crate::contents::{Entry, Named};
-use crate::entries::read_entries;
 use crate::linking::{Asked, link};
 use crate::members::repeated_member;
 use crate::names::{lesser, repeated_label};
 use crate::phandles::{Phandles, read_phandles};
 use crate::references::{cell_references, name_set, node_labels, path_references, unlabelled};
 use crate::refusal::DtsRefusal;
+use hv_dtgram::{Entry, Named, read_entries};
 use hv_dtree::{Node, Tree};
 use std::alloc::{AllocError, Global};
 
@@ -98,6 +98,9 @@ pub fn read_dts(alloc: Global, text: &[u8]) -> Result<Tree, DtsRefusal>
 
     // A refusal carries its offset.
     ensures refused { IfErr result (λ refusal. IsRefusedAs text.now refusal) }
+
+    // What refuses a text is answered, unless memory runs out.
+    ensures refuses { (refusal : DtsRefusal) → IsRefusedAs text.now refusal → IsAnswer result refusal }
 {
     match read_any(alloc, text) {
         Ok(root) => Ok(Tree::of_root(root)),

@@ -5,8 +5,8 @@ ghost use Rattle.hv_dts.specs.Bytes.{cells_references, cell_lists_references, pa
 ghost use Rattle.hv_dts.specs.Rules.{has_name, place_if, lesser, least, node_labels, cell_references, path_references, unlabelled, names_of};
 ghost use Rattle.hv_dts.specs.Sets.{Holds};
 
-use crate::contents::{Cell, Entry, Named, Value};
 use crate::names::{lesser, note_name};
+use hv_dtgram::{Cell, Entry, Named, Value};
 use hv_text::Bytes;
 use std::alloc::{AllocError, Global};
 use std::collections::BTreeSet;

@@ -1,7 +1,9 @@
 //! Why a text is no source.
 ghost use Rattle.std.specs.Prelude.{◌≡◌};
+ghost use Rattle.hv_dts.specs.Syntax.{refused_by};
 ghost use Rattle.hv_dts.specs.declared.refusal.DtsRefusal.TheVariants.{Memory};
 
+use hv_dtgram::SyntaxRefusal;
 use std::alloc::AllocError;
 use thiserror::Error;
 
@@ -32,5 +34,17 @@ impl From<AllocError> for DtsRefusal {
 
     fn from(refused: AllocError) -> DtsRefusal {
         DtsRefusal::Memory(refused)
+    }
+}
+
+impl From<SyntaxRefusal> for DtsRefusal {
+    ghost from_gives = { λ e refusal. refusal ≡ refused_by e };
+
+    fn from(refused: SyntaxRefusal) -> DtsRefusal {
+        match refused {
+            SyntaxRefusal::BadToken(at) => DtsRefusal::BadToken(at),
+            SyntaxRefusal::Unexpected(at) => DtsRefusal::Unexpected(at),
+            SyntaxRefusal::Memory(refused) => DtsRefusal::Memory(refused),
+        }
     }
 }

@@ -3,7 +3,7 @@ ghost use Rattle.std.specs.Prelude.{◌≡◌, ◌++◌, IfOk, OnOk};
 ghost use Rattle.hv_dts.specs.Bytes.{cell_bytes, cells_bytes, value_bytes, values_bytes, cells_references, value_references, values_references, is_phandle_name, number_in, phandle_number, no_links};
 ghost use Rattle.hv_dts.specs.Maps.{links_in, is_nil};
 
-use crate::contents::{Cell, Value};
+use hv_dtgram::{Cell, Value};
 use hv_dtree::big_endian;
 use hv_text::Bytes;
 use std::alloc::{AllocError, Global};

@@ -1,7 +1,5 @@
-use Rattle.std.proofs.Common.{◌≡◌, List, true, sym, refl, ◌∙◌}
-use Rattle.std.specs.List.{list_any}
+use Rattle.std.proofs.Common.{sym, refl}
 use Rattle.hv_dts.specs.Linking.{a_number}
-use Rattle.hv_dts.specs.Rules.{has_name}
 use Rattle.hv_dts.proofs.Links.{needy_is}
 use Rattle.hv_dts.proofs.linking.give.Goals as goal
 

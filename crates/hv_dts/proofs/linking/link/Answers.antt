@@ -1,6 +1,5 @@
 use Rattle.std.proofs.Common.{List, ℕ, [], ap, subst}
-use Rattle.std.specs.Prelude.{Option}
-use Rattle.hv_dts.specs.Resolved.{Site, AreGiven}
+use Rattle.hv_dts.specs.Resolved.{AreGiven}
 use Rattle.hv_dts.specs.Linking.{sites_from}
 use Rattle.hv_dts.proofs.Links.{linked_more, linked_all}
 use Rattle.hv_dts.proofs.linking.link.Goals as goal

@@ -1,5 +1,5 @@
 use Rattle.std.proofs.Common.{sym}
-use Rattle.hv_dts.proofs.Links.{first_stays, first_put}
+use Rattle.hv_dts.proofs.Links.{first_put}
 use Rattle.hv_dts.proofs.linking.note_first.Goals as goal
 
 pub returns : goal.returns

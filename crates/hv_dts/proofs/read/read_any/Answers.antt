@@ -1,11 +1,10 @@
-use Rattle.std.proofs.Common.{◌≡◌, List, ℕ, subst, sym, ap, ◌∙◌}
+use Rattle.std.proofs.Common.{◌≡◌, List, subst, sym, ap, ◌∙◌}
 use Rattle.std.specs.List.{flat_map}
-use Rattle.std.specs.Prelude.{Option}
 use Rattle.hv_dts.specs.Rules.{names_of, path_references}
 use Rattle.hv_dts.specs.Resolved.{asked_labels, used_numbers, root_tree}
 use Rattle.hv_dts.specs.Linking.{AreAsked, AreLinked}
 use Rattle.hv_dts.specs.Maps.{links_in}
-use Rattle.hv_dts.specs.declared.contents.Entry.{Entry}
+use Rattle.hv_dtgram.specs.declared.contents.Entry.{Entry}
 use Rattle.hv_dts.proofs.Standing.{stands}
 use Rattle.hv_dts.proofs.Kept.{keeps_rules}
 use Rattle.hv_dtree.specs.Nodes.{IsRoot}

@@ -1,8 +1,8 @@
 use Rattle.std.proofs.Common.{List, ℕ, [], ◌++◌, ap, sym, ◌∙◌}
 use Rattle.std.specs.Prelude.{Option}
-use Rattle.hv_dts.specs.Contents.{entries_of}
+use Rattle.hv_dtgram.specs.Contents.{entries_of}
 use Rattle.hv_dts.specs.Rules.{lesser, least, repeated, labels_of, props_repeated, nodes_repeated}
-use Rattle.hv_dts.specs.declared.contents.Entry.{Entry}
+use Rattle.hv_dtgram.specs.declared.contents.Entry.{Entry}
 use Rattle.hv_dts.proofs.Twice.{least_append}
 use Rattle.hv_dts.proofs.read.twice_named.Goals as goal
 

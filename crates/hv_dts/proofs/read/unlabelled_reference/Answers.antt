@@ -1,9 +1,9 @@
-use Rattle.std.proofs.Common.{List, ℕ, ◌++◌, ap, sym, subst, ◌∙◌}
+use Rattle.std.proofs.Common.{List, ℕ, ap, sym, subst, ◌∙◌}
 use Rattle.std.specs.Prelude.{Option}
 use Rattle.std.specs.List.{flat_map}
 use Rattle.hv_dts.specs.Rules.{lesser, least, node_labels, cell_references, path_references, unlabelled, names_of}
 use Rattle.hv_dts.specs.Sets.{Holds}
-use Rattle.hv_dts.specs.declared.contents.Named.{Named}
+use Rattle.hv_dtgram.specs.declared.contents.Named.{Named}
 use Rattle.hv_dts.proofs.Labels.{lent}
 use Rattle.hv_dts.proofs.Twice.{least_append}
 use Rattle.hv_dts.proofs.read.unlabelled_reference.Goals as goal

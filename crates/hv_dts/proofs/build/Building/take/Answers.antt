@@ -1,4 +1,4 @@
-use Rattle.std.proofs.Common.{◌≡◌, List, [], ◌∷◌, ◌++◌, refl, sym, ap, ◌∙◌}
+use Rattle.std.proofs.Common.{List, [], ◌∷◌, ◌++◌, refl, ap, ◌∙◌}
 use Rattle.hv_dtree.specs.declared.node.Node.{Node}
 use Rattle.hv_dts.specs.Maps.{links_in}
 use Rattle.hv_dts.specs.Building.{frame_tree}

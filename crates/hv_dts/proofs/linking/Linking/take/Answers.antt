@@ -1,6 +1,6 @@
 use Rattle.std.proofs.Common.{refl, sym, subst}
 use Rattle.hv_dts.specs.Linking.{Steps}
-use Rattle.hv_dts.specs.declared.contents.Entry.{Entry}
+use Rattle.hv_dtgram.specs.declared.contents.Entry.{Entry}
 use Rattle.hv_dts.specs.declared.linking.Linking.{Linking}
 use Rattle.hv_dts.proofs.Links.{popped_last}
 use Rattle.hv_dts.proofs.linking.Linking.take.Goals as goal

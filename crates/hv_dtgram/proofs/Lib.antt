@@ -1,0 +1,5 @@
+pub mod Reading
+pub mod Lexing
+pub mod Gathering
+pub mod Lifting
+pub mod Found

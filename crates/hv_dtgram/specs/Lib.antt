@@ -1,0 +1,6 @@
+pub mod Source
+pub mod Steps
+pub mod Lexed
+pub mod Refused
+pub mod Contents
+pub mod Gathering
