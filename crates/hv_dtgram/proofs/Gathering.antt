@@ -1,10 +1,14 @@
 -- What is gathered from the pieces of a source.
-use Rattle.std.proofs.Common.{◌≡◌, ℕ, ◌+◌, ◌<◌, ◌≤◌, List, [], ◌∷◌, ◌++◌, length, drop, get_or, refl, sym, ap, ◌∙◌, append_assoc, true, false}
+use Rattle.std.proofs.Common.{◌≡◌, ℕ, ◌+◌, ◌<◌, List, [], ◌∷◌, ◌++◌, length, drop, get_or, refl, sym, ap, ◌∙◌, append_assoc, true, false, Ok, Err, subst}
 use Rattle.std.specs.Prelude.{Option, Some, None, map, MatchOption}
-use Rattle.std.proofs.lemmas.List.{append-nil, drop_more, drop_all}
+use Rattle.std.proofs.lemmas.List.{append-nil, drop_more}
+use Rattle.hv_dtlex.specs.Tokens.{token_at}
 use Rattle.hv_dtlex.specs.declared.token.Token.{Token}
+use Rattle.hv_dtlex.specs.declared.token.BadToken.{BadToken}
+use Rattle.hv_dtlex.specs.declared.token.Mode.{Mode}
+use Rattle.hv_dtgram.specs.Lexed.{Lexes, mode_after}
 use Rattle.hv_dtgram.specs.Contents.{Piece, mark, word, piece_of, labels_pieces, cells_pieces, bytes_pieces, value_pieces, further_pieces, values_pieces, entry_pieces, entries_pieces, source_pieces}
-use Rattle.hv_dtgram.specs.Gathering.{gather, nothing_gathered}
+use Rattle.hv_dtgram.specs.Gathering.{gather, nothing_gathered, without_last}
 use Rattle.hv_dtgram.specs.declared.symbol.Symbol.TheVariants as on
 use Rattle.hv_dtgram.specs.declared.contents.Named.{Named}
 use Rattle.hv_dtgram.specs.declared.contents.Cell.{Cell}
@@ -98,26 +102,53 @@ entries_on (one ∷ more) tail entries =
 pub source_gathered : (entries : List Entry) → all_gathered nothing_gathered (source_pieces entries) ≡ idle (entries ++ entry.Close ∷ [])
 source_gathered entries = entries_on entries (mark on.NodeClose ∷ mark on.Semicolon ∷ []) []
 
-abbrev front : List Entry → List Entry
-front [] = []
-front (one ∷ []) = []
-front (one ∷ next ∷ entries) = one ∷ front (next ∷ entries)
+pub last_of : {X : Type 0} (xs : List X) (x : X) → without_last (xs ++ x ∷ []) ≡ xs
+last_of [] x = refl
+last_of (y ∷ []) x = refl
+last_of (y ∷ z ∷ xs) x = λ i. y ∷ last_of (z ∷ xs) x i
 
-front_of : (entries : List Entry) (last : Entry) → front (entries ++ last ∷ []) ≡ entries
-front_of [] last = refl
-front_of (one ∷ []) last = refl
-front_of (one ∷ next ∷ entries) last = λ i. one ∷ front_of (next ∷ entries) last i
+-- where the last is taken away, those before it are left
+pub all_but_last : {X : Type 0} (was is : List X) (taken : Option X) → MatchOption taken ((was ≡ []) × (is ≡ [])) (λ one. was ≡ is ++ one ∷ []) → is ≡ without_last was
+all_but_last was is None both = both.1 ∙ ap without_last (sym both.0)
+all_but_last was is (Some one) here = sym (last_of is one) ∙ ap without_last (sym here)
 
--- where the last entry is taken away, those before it are left
-pub all_but_last : (was is entries : List Entry) (last : Entry) (taken : Option Entry) → MatchOption taken ((was ≡ []) × (is ≡ [])) (λ one. was ≡ is ++ one ∷ []) → was ≡ entries ++ last ∷ [] → is ≡ entries
-all_but_last was is entries last None taken here =
-    taken.1 ∙ ap front (sym taken.0) ∙ ap front here ∙ front_of entries last
-all_but_last was is entries last (Some one) taken here =
-    sym (front_of is one) ∙ ap front (sym taken) ∙ ap front here ∙ front_of entries last
+-- the tokens that are left lead to the same
+pub record Leads (text : List ℕ) (at : ℕ) (mode : Mode) (it : Gathered) (tokens : List Token) : Type 0 where
+  pub left : List Token
+  pub lexes : Lexes text at mode left None
+  pub same : all_gathered it (map (piece_of text) left) ≡ all_gathered nothing_gathered (map (piece_of text) tokens)
 
--- at the last token all is gathered
-pub gathered_all : (text : List ℕ) (tokens : List Token) (i : ℕ) (it : Gathered) (entries : List Entry) → length tokens ≤ i → all_gathered it (map (piece_of text) (drop i tokens)) ≡ all_gathered nothing_gathered (map (piece_of text) tokens)
-    → map (piece_of text) tokens ≡ source_pieces entries → it ≡ idle (entries ++ entry.Close ∷ [])
-gathered_all text tokens i it entries over same here =
-    sym (ap (λ (ts : List Token). all_gathered it (map (piece_of text) ts)) (drop_all i tokens over)) ∙ same
-    ∙ ap (all_gathered nothing_gathered) here ∙ source_gathered entries
+some_token : (text : List ℕ) (at : ℕ) (mode : Mode) (it new : Gathered) (tokens left : List Token) (token : Token) → Lexes text at mode left None → all_gathered it (map (piece_of text) left) ≡ all_gathered nothing_gathered (map (piece_of text) tokens)
+    → token_at text at mode ≡ Ok (Some token) → new ≡ gather it (piece_of text token) → Leads text token.end (mode_after mode token.kind) new tokens
+some_token text at mode it new tokens [] token lexes same here is = absurd (cc (lexes, here))
+some_token text at mode it new tokens (t ∷ left) token lexes same here is =
+    let first : t ≡ token = cc (lexes.0, here) in
+    record {
+      left = left;
+      lexes = subst (λ (x : Token). Lexes text x.end (mode_after mode x.kind) left None) first lexes.1;
+      same = ap (λ (g : Gathered). all_gathered g (map (piece_of text) left)) (is ∙ ap (λ (x : Token). gather it (piece_of text x)) (sym first)) ∙ same;
+    }
+
+pub leads_on : (text : List ℕ) (at : ℕ) (mode : Mode) (it new : Gathered) (tokens : List Token) (token : Token) → Leads text at mode it tokens → token_at text at mode ≡ Ok (Some token) → new ≡ gather it (piece_of text token)
+    → Leads text token.end (mode_after mode token.kind) new tokens
+leads_on text at mode it new tokens token leads here is = some_token text at mode it new tokens leads.left token leads.lexes leads.same here is
+
+no_token : (text : List ℕ) (at : ℕ) (mode : Mode) (it : Gathered) (tokens left : List Token) → Lexes text at mode left None → all_gathered it (map (piece_of text) left) ≡ all_gathered nothing_gathered (map (piece_of text) tokens)
+    → token_at text at mode ≡ Ok None → it ≡ all_gathered nothing_gathered (map (piece_of text) tokens)
+no_token text at mode it tokens [] lexes same here = same
+no_token text at mode it tokens (t ∷ left) lexes same here = absurd (cc (lexes.0, here))
+
+-- at the end all is gathered
+pub gathered_all : (text : List ℕ) (at : ℕ) (mode : Mode) (it : Gathered) (tokens : List Token) (entries : List Entry) → Leads text at mode it tokens → token_at text at mode ≡ Ok None → map (piece_of text) tokens ≡ source_pieces entries
+    → without_last it.entries ≡ entries
+gathered_all text at mode it tokens entries leads here is =
+    ap (λ (g : Gathered). without_last g.entries) (no_token text at mode it tokens leads.left leads.lexes leads.same here ∙ ap (all_gathered nothing_gathered) is ∙ source_gathered entries)
+    ∙ last_of entries entry.Close
+
+no_bad : (text : List ℕ) (at : ℕ) (mode : Mode) (left : List Token) (bad : BadToken) → Lexes text at mode left None → token_at text at mode ≡ Err bad → ⊥
+no_bad text at mode [] bad lexes here = cc (lexes, here)
+no_bad text at mode (t ∷ left) bad lexes here = cc (lexes.0, here)
+
+-- and no token is bad
+pub never_bad : (text : List ℕ) (at : ℕ) (mode : Mode) (it : Gathered) (tokens : List Token) (bad : BadToken) → Leads text at mode it tokens → token_at text at mode ≡ Err bad → ⊥
+never_bad text at mode it tokens bad leads here = no_bad text at mode leads.left bad leads.lexes here

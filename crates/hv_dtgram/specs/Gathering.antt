@@ -1,5 +1,5 @@
 -- How entries are gathered piece by piece.
-use Rattle.std.specs.Prelude.{[], ◌∷◌, ◌++◌, true, false, if◌then◌else◌, Option, Some, None}
+use Rattle.std.specs.Prelude.{[], ◌∷◌, ◌++◌, true, false, if◌then◌else◌, Option, Some, None, List}
 use Rattle.hv_dtgram.specs.Contents.{Piece, mark, label, word, number, text, pair, reference}
 use Rattle.hv_dtgram.specs.declared.symbol.Symbol.TheVariants as on
 use Rattle.hv_dtgram.specs.declared.contents.Named.{Named}
@@ -38,3 +38,9 @@ gather it (mark on.NodeOpen) = opened it it.name
 gather it (mark on.NodeClose) = record it { entries = it.entries ++ entry.Close ∷ [] }
 gather it (mark on.Semicolon) = ended it it.name
 gather it (mark other) = it
+
+-- all but the last
+abbrev pub without_last : {X : Type 0} → List X → List X
+without_last [] = []
+without_last (x ∷ []) = []
+without_last (x ∷ y ∷ xs) = x ∷ without_last (y ∷ xs)

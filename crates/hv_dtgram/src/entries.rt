@@ -15,6 +15,7 @@ pub fn read_entries(alloc: Global, text: &[u8]) -> Result<Items<Entry>, SyntaxRe
     ensures refused { IfErr result (λ refusal. IsRefusal text.now refusal) }
 {
     let tokens = source_tokens(alloc, text)?;
-    let entries = gathered_entries(alloc, text, &tokens)?;
+    drop(tokens);
+    let entries = gathered_entries(alloc, text)?;
     Ok(entries)
 }

@@ -1,14 +1,17 @@
 //! Entries gathered token by token.
-ghost use Rattle.std.specs.Prelude.{◌≡◌, List, map, IfOk, OnOk};
-ghost use Rattle.hv_dtgram.specs.Lexed.{token_text};
+ghost use Rattle.std.specs.Prelude.{◌≡◌, List, None, map, IfOk, OnOk};
+ghost use Rattle.hv_dtlex.specs.declared.token.Token.{Token};
+ghost use Rattle.hv_dtlex.specs.declared.token.Mode.TheVariants.{Name};
+ghost use Rattle.hv_dtgram.specs.Lexed.{token_text, Lexes};
 ghost use Rattle.hv_dtgram.specs.Contents.{Piece, label, word, number, text, pair, reference, mark, piece_of, source_pieces};
-ghost use Rattle.hv_dtgram.specs.Gathering.{gather, nothing_gathered};
+ghost use Rattle.hv_dtgram.specs.Gathering.{gather, nothing_gathered, without_last};
 ghost use Rattle.hv_dtgram.specs.declared.contents.Entry.{Entry};
 
 use crate::contents::{Cell, Entry, Named, Value};
+use crate::lexed::mode_after;
 use crate::symbol::Symbol;
 use crate::word::kind_and_word;
-use hv_dtlex::{Token, TokenKind, cell_of, number_value, string_value};
+use hv_dtlex::{Mode, Token, TokenKind, cell_of, next_token, number_value, string_value};
 use hv_dtree::Items;
 use hv_text::Bytes;
 use std::alloc::{AllocError, Global};
@@ -159,30 +162,44 @@ impl Gathered {
     }
 }
 
-/// The entries of a source of which these are the tokens.
-pub fn gathered_entries(
-    alloc: Global,
-    text: &[u8],
-    tokens: &[Token],
-) -> Result<Items<Entry>, AllocError>
-    ensures { (entries : List Entry)
-        → map (piece_of text.now) tokens.now ≡ source_pieces entries
+impl Gathered {
+    // The mark that closes the root is no entry.
+    fn finish(self) -> Items<Entry>
+        ensures { result ≡ without_last self.entries }
+    {
+        let Gathered {
+            labels: _,
+            name: _,
+            values: _,
+            cells: _,
+            in_cells: _,
+            bytes: _,
+            mut entries,
+        } = self;
+        let _root = entries.pop();
+        entries
+    }
+}
+
+/// The entries of a source.
+pub fn gathered_entries(alloc: Global, text: &[u8]) -> Result<Items<Entry>, AllocError>
+    ensures { (tokens : List Token) (entries : List Entry)
+        → Lexes text.now 0 Name tokens None
+        → map (piece_of text.now) tokens ≡ source_pieces entries
         → IfOk result (λ found. found ≡ entries) }
 {
     let mut gathered = Gathered::new(alloc);
-    for token in tokens {
-        gathered.take(alloc, text, *token)?;
+    let mut at = 0;
+    let mut mode = Mode::Name;
+    'gathering: loop {
+        match next_token(text, at, mode) {
+            Ok(Some(token)) => {
+                gathered.take(alloc, text, token)?;
+                at = token.end;
+                mode = mode_after(mode, token.kind);
+            }
+            Ok(None) => return Ok(gathered.finish()),
+            Err(_) => return Ok(gathered.finish()),
+        }
     }
-    let Gathered {
-        labels: _,
-        name: _,
-        values: _,
-        cells: _,
-        in_cells: _,
-        bytes: _,
-        mut entries,
-    } = gathered;
-    // The mark that closes the root is no entry.
-    let _root = entries.pop();
-    Ok(entries)
 }

@@ -16,7 +16,8 @@ pub struct Lexed {
     pub bad: Option<usize>,
 }
 
-fn mode_after(mode: Mode, kind: TokenKind) -> Mode
+/// The mode behind a token.
+pub fn mode_after(mode: Mode, kind: TokenKind) -> Mode
     ensures { result ≡ mode_after mode kind }
 {
     match kind {
@@ -39,13 +40,27 @@ fn symbol_of(text: &[u8], token: Token) -> Symbol
     )
 }
 
+// How many tokens there are, so that no more memory is taken than they need.
+fn count_tokens(text: &[u8]) -> usize {
+    let mut count = 0usize;
+    let mut at = 0;
+    let mut mode = Mode::Name;
+    'counting: while let Ok(Some(token)) = next_token(text, at, mode) {
+        count = count.saturating_add(1);
+        at = token.end;
+        mode = mode_after(mode, token.kind);
+    }
+    count
+}
+
 /// The tokens of a text up to its end or to where no token stands.
 pub fn lex(alloc: Global, text: &[u8]) -> Result<Lexed, AllocError>
     ensures tokens { IfOk result (λ lexed. Lexes text.now 0 Name lexed.tokens.items lexed.bad) }
     ensures symbols { IfOk result (λ lexed. lexed.symbols.items ≡ symbols_of text.now lexed.tokens.items) }
 {
-    let mut tokens = Vec::new(alloc);
-    let mut symbols = Vec::new(alloc);
+    let count = count_tokens(text);
+    let mut tokens = Vec::with_capacity(alloc, count)?;
+    let mut symbols = Vec::with_capacity(alloc, count)?;
     let mut at = 0;
     let mut mode = Mode::Name;
     'lexing: loop {
