@@ -5,3 +5,4 @@ pub mod Regions
 pub mod Links
 pub mod Windows
 pub mod Guests
+pub mod Rules

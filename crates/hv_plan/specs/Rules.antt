@@ -1,0 +1,39 @@
+-- What holds of each plan that is given.
+use Rattle.std.specs.Prelude.{◌≡◌, ℕ, ◌+◌, ◌<◌, ◌≤◌, false, List, length, All, slice_get, Option, Some, None}
+use Rattle.std.specs.List.{AllPairs}
+use Rattle.hv_region.specs.Plans.{IsVcpuPlan, IsRegionPlan}
+use Rattle.hv_region.specs.declared.plan.Form.{Form}
+use Rattle.hv_region.specs.declared.plan.Form.TheVariants.{Real}
+use Rattle.hv_region.specs.declared.plan.RegionPlan.{RegionPlan}
+use Rattle.hv_plan.specs.declared.guest.GuestPlan.{GuestPlan}
+
+-- an area is there and has so many bytes
+abbrev pub HasBytes : ℕ → Option (List ℕ × ℕ) → Type 0
+HasBytes end None = ⊥
+HasBytes end (Some area) = end ≤ area.1
+
+-- a region that shows an area lies within it
+abbrev pub LiesInArea : List (List ℕ × ℕ) → ℕ → Form → Type 0
+LiesInArea areas size (Real area offset) = HasBytes (offset + size) (slice_get areas area)
+LiesInArea areas size _ = Unit {0}
+
+-- some address of one type lies in both regions
+pub record Share (one other : RegionPlan) : Type 0 where
+  pub type : one.kind ≡ other.kind
+  pub front : one.base < other.base + other.size
+  pub back : other.base < one.base + one.size
+
+-- regions that are to be built have no address in common
+abbrev pub LieApart : RegionPlan → RegionPlan → Type 0
+LieApart one other = one.detached ≡ false → other.detached ≡ false → Share one other → ⊥
+
+-- a guest has 1 to 4 VCPUs and 1 to 16 regions that keep the rules, and whose windows lie apart
+pub record KeepsRules (areas : List (List ℕ × ℕ)) (plan : GuestPlan) : Type 0 where
+  pub some_vcpus : 1 ≤ length plan.vcpus.items
+  pub few_vcpus : length plan.vcpus.items ≤ 4
+  pub some_regions : 1 ≤ length plan.regions.items
+  pub few_regions : length plan.regions.items ≤ 16
+  pub vcpus : All IsVcpuPlan plan.vcpus.items
+  pub regions : All IsRegionPlan plan.regions.items
+  pub in_areas : All (λ region. LiesInArea areas region.size region.form) plan.regions.items
+  pub apart : AllPairs LieApart plan.regions.items
