@@ -1,25 +1,26 @@
 -- That each plan keeps the rules.
-use Rattle.std.proofs.Common.{◌≡◌, ℕ, zero, suc, ◌+◌, ◌<◌, ◌≤◌, Bool, true, false, not, ◌&&◌, ◌||◌, ltb, List, [], ◌∷◌, ◌++◌, length, get_or, take, map, refl, sym, ap, subst, ◌∙◌, arith, get_or-take, length-take-le}
-use Rattle.std.specs.Prelude.{Option, Some, None, Result, Ok, Err, IfOk, unwrap_or}
-use Rattle.std.specs.List.{All, AllPairs, list_any, enumerate_from}
-use Rattle.std.proofs.lemmas.Bool.{false≢true}
+use Rattle.std.proofs.Common.{◌≡◌, ℕ, zero, suc, ◌+◌, ◌<◌, ◌≤◌, Bool, true, false, not, ◌&&◌, ◌||◌, ltb, leb, List, [], ◌∷◌, length, get_or, take, map, refl, sym, ap, subst, ◌∙◌, arith, get_or-take, length-take-le}
+use Rattle.std.specs.Prelude.{Option, Some, None, Result, Ok, Err, IfOk}
+use Rattle.std.specs.List.{All, Any, AllPairs, list_any, enumerate_from}
+use Rattle.std.proofs.lemmas.Bool.{false≢true, and_parts}
 use Rattle.std.proofs.lemmas.Bool.Decides.{nat_tests, Decides-ltb}
 use Rattle.std.proofs.lemmas.List.Elements.{All-map, All-same}
+use Rattle.std.proofs.lemmas.List.Folds.{Any-from_list_any}
 use Rattle.hv_text.specs.declared.address.AddressType.{AddressType}
 use Rattle.hv_text.specs.declared.address.AddressType.TheVariants.{Memory, Io}
 use Rattle.hv_dtree.specs.Nodes.{name_of}
 use Rattle.hv_dtree.specs.declared.node.Node.{Node}
 use Rattle.hv_region.specs.Plans.{IsVcpuPlan, IsRegionPlan}
 use Rattle.hv_region.specs.declared.plan.RegionPlan.{RegionPlan}
-use Rattle.hv_region.specs.declared.plan.VcpuPlan.{VcpuPlan}
-use Rattle.hv_plan.specs.Vcpus.{when, vcpu_causes, vcpu_plan}
+use Rattle.hv_plan.specs.Vcpus.{vcpu_causes, vcpu_plan}
 use Rattle.hv_plan.specs.Regions.{region_causes}
-use Rattle.hv_plan.specs.Links.{region_plan, region_plans}
-use Rattle.hv_plan.specs.Windows.{is_same_type, meets, blocks, overlap_causes}
-use Rattle.hv_plan.specs.Rules.{KeepsRules, LiesInArea, LieApart, Share}
-use Rattle.hv_plan.specs.Guests.{Fault, Plans, IsPlan, faults_of, own_faults, vcpu_faults, region_faults, link_faults, window_faults, alias_faults, guest_causes, vcpus_of, regions_of, aspace_of, plans_of, in_vcpus, in_regions}
+use Rattle.hv_plan.specs.Links.{region_plan}
+use Rattle.hv_plan.specs.Windows.{is_same_type, meets, holds, blocks, is_alias, has_range, lacks_target, overlap_causes, alias_causes}
+use Rattle.hv_plan.specs.Rules.{KeepsRules, LiesInArea, LieApart, Share, IsTarget, HasTarget}
+use Rattle.hv_region.specs.declared.plan.Form.{Form}
+use Rattle.hv_region.specs.declared.plan.Form.TheVariants.{Ram, Rom, Device, Real, Alias}
+use Rattle.hv_plan.specs.Guests.{Plans, IsPlan, faults_of, own_faults, vcpu_faults, region_faults, link_faults, window_faults, alias_faults, guest_causes, vcpus_of, regions_of, aspace_of, plans_of, in_vcpus, in_regions}
 use Rattle.hv_plan.specs.declared.guest.GuestPlan.{GuestPlan}
-use Rattle.hv_plan.specs.declared.refusal.Cause.{Cause}
 use Rattle.hv_plan.specs.declared.refusal.PlanRefusal.{PlanRefusal}
 use Rattle.hv_plan.specs.declared.refusal.PlanRefusal.TheVariants.{NoGuest, BadNode, Memory}
 use Rattle.hv_plan.proofs.RuleLemmas.{no_parts, no_map, not_when, no_causes, good_vcpu, good_region, good_area, all_rows, neither}
@@ -78,6 +79,55 @@ lie_apart plans none i j d lt within one_built other_built share =
     let apart : meets one other ≡ false = clear_one one.detached (meets one other) at_one one_built in
     false≢true (sym apart ∙ share_meets one other share)
 
+-- a region that has the range of an alias is its target
+kinds_same : (one other : AddressType) → is_same_type one other ≡ true → one ≡ other
+kinds_same Memory Memory is = refl
+kinds_same Memory Io is = absurd (false≢true is)
+kinds_same Io Memory is = absurd (false≢true is)
+kinds_same Io Io is = refl
+
+not_true : (test : Bool) → not test ≡ true → test ≡ false
+not_true true is = absurd (false≢true is)
+not_true false is = refl
+
+at_least : (low high : ℕ) → leb low high ≡ true → low ≤ high
+at_least low high is = grind (arith, nat_tests)
+
+target_is : (region other : RegionPlan) (base : ℕ) → has_range region base other ≡ true → IsTarget region.kind base region.size other
+target_is region other base is =
+    let parts = and_parts (not other.detached && not (is_alias other.form)) (holds other region.kind base region.size) is in
+    let front = and_parts (not other.detached) (not (is_alias other.form)) parts.0 in
+    let range = and_parts (is_same_type other.kind region.kind && leb other.base base) (leb (base + region.size) (other.base + other.size)) parts.1 in
+    let begin = and_parts (is_same_type other.kind region.kind) (leb other.base base) range.0 in
+    let from : leb other.base base ≡ true = begin.1 in
+    let to : leb (base + region.size) (other.base + other.size) ≡ true = range.1 in
+    record {
+      built = not_true other.detached front.0;
+      own = not_true (is_alias other.form) front.1;
+      kind = kinds_same other.kind region.kind begin.0;
+      from = at_least other.base base from;
+      to = at_least (base + region.size) (other.base + other.size) to;
+    }
+
+any_target : (regions : List RegionPlan) (region : RegionPlan) (base : ℕ) → list_any (has_range region base) regions ≡ true → Any (IsTarget region.kind base region.size) regions
+any_target regions region base is =
+    let found = Any-from_list_any (has_range region base) regions is in
+    (found.0, found.1, found.2, found.3, target_is region found.1 base found.4)
+
+not_false : (test : Bool) → not test ≡ false → test ≡ true
+not_false true is = refl
+not_false false is = absurd (false≢true (sym is))
+
+target_by : (regions : List RegionPlan) (region : RegionPlan) (form : Form) → (not region.detached && lacks_target regions region form) ≡ false → HasTarget regions region form
+target_by regions region Ram is = tt
+target_by regions region Rom is = tt
+target_by regions region (Device names) is = tt
+target_by regions region (Real area offset) is = tt
+target_by regions region (Alias base) is = λ built. any_target regions region base (not_false (list_any (has_range region base) regions) (clear_one region.detached (not (list_any (has_range region base) regions)) is built))
+
+have_targets : (plans : List RegionPlan) → ((k : ℕ) (d : RegionPlan) → k < length plans → alias_causes plans (0 + k) (get_or plans k d) ≡ []) → All (λ region. HasTarget plans region region.form) plans
+have_targets plans none = λ k d lt. target_by plans (get_or plans k d) (get_or plans k d).form (not_when _ _ (none k d lt))
+
 length_rows : {X : Type 0} (row : ℕ) (xs : List X) → length (enumerate_from row xs) ≡ length xs
 length_rows row [] = refl
 length_rows row (x ∷ xs) = ap suc (length_rows (row + 1) xs)
@@ -99,25 +149,28 @@ keeps areas guest plan none is =
     let regions_len : length plan.regions.items ≡ length (regions_of guest) = ap length is.regions ∙ (length_map (λ it. region_plan areas (aspace_of guest) (regions_of guest) it.0 it.1) (enumerate_from 0 (regions_of guest)) ∙ length_rows 0 (regions_of guest)) in
     let region_good = λ (k : ℕ) (d : Node) (lt : k < length (regions_of guest)). no_causes (in_regions (name_of guest)) name_of (λ row node. region_causes areas node) 0 (regions_of guest) regions.0 k d lt in
     record {
-  some_vcpus = omega (arith, vcpus_len, sizes.0);
-  few_vcpus = omega (arith, vcpus_len, sizes.2);
-  some_regions = omega (arith, regions_len, sizes.1);
-  few_regions = omega (arith, regions_len, sizes.3);
-  vcpus =
-      All-same IsVcpuPlan plan.vcpus.items (map vcpu_plan (vcpus_of guest)) is.vcpus
-      (All-map IsVcpuPlan vcpu_plan (vcpus_of guest) (λ k d lt. good_vcpu (get_or (vcpus_of guest) k d) (no_causes (in_vcpus (name_of guest)) name_of (λ row node. vcpu_causes node) 0 (vcpus_of guest) vcpus.0 k d lt)));
-  regions =
-      All-same IsRegionPlan plan.regions.items (plans_of areas guest) is.regions
-      (All-map IsRegionPlan (λ it. region_plan areas (aspace_of guest) (regions_of guest) it.0 it.1) (enumerate_from 0 (regions_of guest))
-        (all_rows (λ it. IsRegionPlan (region_plan areas (aspace_of guest) (regions_of guest) it.0 it.1)) 0 (regions_of guest)
+      some_vcpus = omega (arith, vcpus_len, sizes.0);
+      few_vcpus = omega (arith, vcpus_len, sizes.2);
+      some_regions = omega (arith, regions_len, sizes.1);
+      few_regions = omega (arith, regions_len, sizes.3);
+      vcpus =
+          All-same IsVcpuPlan plan.vcpus.items (map vcpu_plan (vcpus_of guest)) is.vcpus
+          (All-map IsVcpuPlan vcpu_plan (vcpus_of guest) (λ k d lt. good_vcpu (get_or (vcpus_of guest) k d) (no_causes (in_vcpus (name_of guest)) name_of (λ row node. vcpu_causes node) 0 (vcpus_of guest) vcpus.0 k d lt)));
+      regions =
+          All-same IsRegionPlan plan.regions.items (plans_of areas guest) is.regions
+          (All-map IsRegionPlan (λ it. region_plan areas (aspace_of guest) (regions_of guest) it.0 it.1) (enumerate_from 0 (regions_of guest))
+          (all_rows (λ it. IsRegionPlan (region_plan areas (aspace_of guest) (regions_of guest) it.0 it.1)) 0 (regions_of guest)
           (λ k d lt. good_region areas (aspace_of guest) (regions_of guest) (0 + k) (get_or (regions_of guest) k d) sizes.3 (region_good k d lt))));
-  in_areas =
-      All-same (λ region. LiesInArea areas region.size region.form) plan.regions.items (plans_of areas guest) is.regions
-      (All-map (λ region. LiesInArea areas region.size region.form) (λ it. region_plan areas (aspace_of guest) (regions_of guest) it.0 it.1) (enumerate_from 0 (regions_of guest))
-        (all_rows (λ it. LiesInArea areas (region_plan areas (aspace_of guest) (regions_of guest) it.0 it.1).size (region_plan areas (aspace_of guest) (regions_of guest) it.0 it.1).form) 0 (regions_of guest)
+      in_areas =
+          All-same (λ region. LiesInArea areas region.size region.form) plan.regions.items (plans_of areas guest) is.regions
+          (All-map (λ region. LiesInArea areas region.size region.form) (λ it. region_plan areas (aspace_of guest) (regions_of guest) it.0 it.1) (enumerate_from 0 (regions_of guest))
+          (all_rows (λ it. LiesInArea areas (region_plan areas (aspace_of guest) (regions_of guest) it.0 it.1).size (region_plan areas (aspace_of guest) (regions_of guest) it.0 it.1).form) 0 (regions_of guest)
           (λ k d lt. good_area areas (get_or (regions_of guest) k d) (region_good k d lt))));
-  apart = subst (AllPairs LieApart) (sym is.regions) (lie_apart (plans_of areas guest) (no_causes (in_regions (name_of guest)) (λ plan. plan.name) (overlap_causes (plans_of areas guest)) 0 (plans_of areas guest) windows.0));
-}
+      apart = subst (AllPairs LieApart) (sym is.regions) (lie_apart (plans_of areas guest) (no_causes (in_regions (name_of guest)) (λ plan. plan.name) (overlap_causes (plans_of areas guest)) 0 (plans_of areas guest) windows.0));
+      targets =
+          subst (λ (plans : List RegionPlan). All (λ region. HasTarget plans region region.form) plans) (sym is.regions)
+          (have_targets (plans_of areas guest) (no_causes (in_regions (name_of guest)) (λ plan. plan.name) (alias_causes (plans_of areas guest)) 0 (plans_of areas guest) windows.1));
+    }
 
 -- what is given keeps the rules
 pub given_keeps : (areas : List (List ℕ × ℕ)) (guest : Option Node) (result : Result GuestPlan PlanRefusal) → Plans areas guest result → IfOk result (KeepsRules areas)

@@ -1,28 +1,25 @@
 -- That a guest without faults keeps the rules.
-use Rattle.std.proofs.Common.{◌≡◌, ◌≢◌, ℕ, zero, suc, ◌+◌, ◌%◌, ◌<◌, ◌≤◌, Bool, true, false, not, cond, ◌&&◌, ◌||◌, eqb, ltb, leb, List, [], ◌∷◌, ◌++◌, length, get_or, take, drop, map, refl, sym, ap, subst, ◌∙◌, arith}
-use Rattle.std.specs.Prelude.{Option, Some, None, Result, Ok, Err, IfOk, unwrap_or, is_some, is_none, nat_le, nat_lt, slice_get, codes, if◌then◌else◌}
-use Rattle.std.specs.List.{All, AllPairs, list_any, enumerate_from, position_from}
+use Rattle.std.proofs.Common.{◌≡◌, ℕ, zero, suc, ◌+◌, ◌%◌, ◌<◌, ◌≤◌, Bool, true, false, not, cond, ◌||◌, eqb, leb, List, [], ◌∷◌, ◌++◌, length, get_or, map, refl, sym, ap, subst, ◌∙◌, arith}
+use Rattle.std.specs.Prelude.{Option, Some, None, unwrap_or, is_some, is_none, slice_get, codes, if◌then◌else◌}
+use Rattle.std.specs.List.{All, enumerate_from, position_from}
 use Rattle.std.specs.Option.{option_map_or, option_map, option_and_then}
 use Rattle.std.proofs.lemmas.Bool.{false≢true, and_parts}
 use Rattle.std.proofs.lemmas.Bool.Decides.{nat_tests}
-use Rattle.std.proofs.lemmas.List.Elements.{All-cons, All-nil, All-map}
+use Rattle.std.proofs.lemmas.List.Elements.{All-cons, All-nil}
 use Rattle.hv_text.specs.Path.{path_text}
 use Rattle.hv_text.specs.declared.address.AddressType.{AddressType}
-use Rattle.hv_text.specs.declared.address.AddressType.TheVariants.{Memory, Io}
-use Rattle.hv_dtree.specs.Nodes.{name_of}
+use Rattle.hv_text.specs.declared.address.AddressType.TheVariants.{Memory}
 use Rattle.hv_dtree.specs.declared.node.Node.{Node}
 use Rattle.hv_region.specs.Addresses.{end_of}
 use Rattle.hv_region.specs.Plans.{IsVcpuPlan, IsRegionPlan, FitsForm, IsLink}
-use Rattle.hv_region.specs.declared.plan.RegionPlan.{RegionPlan}
-use Rattle.hv_region.specs.declared.plan.VcpuPlan.{VcpuPlan}
 use Rattle.hv_plan.specs.Properties.{is_within, text_of, cell_of}
-use Rattle.hv_plan.specs.Links.{link_of, interrupts, parent_phandle, has_phandle, region_plan, region_plans}
+use Rattle.hv_plan.specs.Links.{link_of, interrupts, parent_phandle, has_phandle, region_plan}
 use Rattle.hv_plan.specs.Rules.{LiesInArea, HasBytes}
 use Rattle.hv_plan.specs.Vcpus.{when, vcpu_causes, vcpu_plan, is_vcpu, start_of, priority_of, slice_of}
-use Rattle.hv_plan.specs.Regions.{region_causes, is_region, is_range, is_part, keeps_sort, has_no_area, form_by, sort_of, type_of, base_of, size_of, offset_of, area_of, area_row, area_len, is_named, source_of}
+use Rattle.hv_plan.specs.Regions.{region_causes, is_range, is_part, keeps_sort, has_no_area, form_by, sort_of, type_of, base_of, size_of, offset_of, area_of, is_named, source_of}
 use Rattle.hv_plan.specs.declared.sort.Sort.{Sort}
 use Rattle.hv_plan.specs.declared.sort.Sort.TheVariants.{Ram, Rom, Device, Real, Alias}
-use Rattle.hv_plan.specs.Guests.{Fault, faults_from}
+use Rattle.hv_plan.specs.Guests.{faults_from}
 use Rattle.hv_plan.specs.declared.refusal.Cause.{Cause}
 
 -- both parts of an empty list are empty
@@ -200,11 +197,11 @@ good_region areas aspace regions row node few none =
     let good = and_parts (is_range (type_of node) (base_of node) (size_of node)) (keeps_sort areas node (sort_of node)) (passes_when _ _ forms.0) in
     let range = range_by (type_of node) (base_of node) (size_of node) good.0 in
     record {
-  some = range.0;
-  range = range.1;
-  form = form_fits areas node (sort_of node) sorts.0 good.1;
-  link = is_link aspace regions node few;
-}
+      some = range.0;
+      range = range.1;
+      form = form_fits areas node (sort_of node) sorts.0 good.1;
+      link = is_link aspace regions node few;
+    }
 
 pub good_area : (areas : List (List ℕ × ℕ)) (node : Node) → region_causes areas node ≡ [] → LiesInArea areas (unwrap_or (size_of node) 0) (form_by areas node (sort_of node))
 good_area areas node none =

@@ -1,10 +1,12 @@
 -- What holds of each plan that is given.
 use Rattle.std.specs.Prelude.{◌≡◌, ℕ, ◌+◌, ◌<◌, ◌≤◌, false, List, length, All, slice_get, Option, Some, None}
-use Rattle.std.specs.List.{AllPairs}
+use Rattle.std.specs.List.{AllPairs, Any}
+use Rattle.hv_text.specs.declared.address.AddressType.{AddressType}
 use Rattle.hv_region.specs.Plans.{IsVcpuPlan, IsRegionPlan}
 use Rattle.hv_region.specs.declared.plan.Form.{Form}
-use Rattle.hv_region.specs.declared.plan.Form.TheVariants.{Real}
+use Rattle.hv_region.specs.declared.plan.Form.TheVariants.{Real, Alias}
 use Rattle.hv_region.specs.declared.plan.RegionPlan.{RegionPlan}
+use Rattle.hv_plan.specs.Windows.{is_alias}
 use Rattle.hv_plan.specs.declared.guest.GuestPlan.{GuestPlan}
 
 -- an area is there and has so many bytes
@@ -27,7 +29,20 @@ pub record Share (one other : RegionPlan) : Type 0 where
 abbrev pub LieApart : RegionPlan → RegionPlan → Type 0
 LieApart one other = one.detached ≡ false → other.detached ≡ false → Share one other → ⊥
 
--- a guest has 1 to 4 VCPUs and 1 to 16 regions that keep the rules, and whose windows lie apart
+-- a region is to be built, is no alias and has a whole range
+pub record IsTarget (type : AddressType) (base size : ℕ) (region : RegionPlan) : Type 0 where
+  pub built : region.detached ≡ false
+  pub own : is_alias region.form ≡ false
+  pub kind : region.kind ≡ type
+  pub from : region.base ≤ base
+  pub to : base + size ≤ region.base + region.size
+
+-- an alias that is to be built stands for a part of such a region
+abbrev pub HasTarget : List RegionPlan → RegionPlan → Form → Type 0
+HasTarget regions region (Alias base) = region.detached ≡ false → Any (IsTarget region.kind base region.size) regions
+HasTarget regions region _ = Unit {0}
+
+-- a guest has 1 to 4 VCPUs and 1 to 16 regions that keep the rules, whose windows lie apart and whose aliases have targets
 pub record KeepsRules (areas : List (List ℕ × ℕ)) (plan : GuestPlan) : Type 0 where
   pub some_vcpus : 1 ≤ length plan.vcpus.items
   pub few_vcpus : length plan.vcpus.items ≤ 4
@@ -37,3 +52,4 @@ pub record KeepsRules (areas : List (List ℕ × ℕ)) (plan : GuestPlan) : Type
   pub regions : All IsRegionPlan plan.regions.items
   pub in_areas : All (λ region. LiesInArea areas region.size region.form) plan.regions.items
   pub apart : AllPairs LieApart plan.regions.items
+  pub targets : All (λ region. HasTarget plan.regions.items region region.form) plan.regions.items

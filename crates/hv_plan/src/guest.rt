@@ -8,7 +8,8 @@ ghost use Rattle.hv_plan.specs.Regions.{region_causes};
 ghost use Rattle.hv_plan.specs.Links.{link_causes, links_of, region_plans};
 ghost use Rattle.hv_plan.specs.Windows.{overlap_causes, alias_causes};
 ghost use Rattle.hv_plan.specs.Rules.{KeepsRules};
-ghost use Rattle.hv_plan.specs.Guests.{Plans, Reads, Passes, guest_node, faults_from, causes_of_count, in_vcpus, in_regions};
+ghost use Rattle.hv_plan.specs.Guests.{Plans, guest_node, faults_from, causes_of_count, in_vcpus, in_regions};
+ghost use Rattle.hv_plan.specs.Reading.{Reads, Passes};
 
 use crate::link::{clock_row, link_cause, links_of, region_plan};
 use crate::path::{guest_fault, inner_fault};

@@ -2,7 +2,8 @@
 ghost use Rattle.std.specs.Prelude.{◌≡◌, [], ◌∷◌, map, codes, IfOk};
 ghost use Rattle.hv_dtree.specs.Nodes.{name_of};
 ghost use Rattle.hv_plan.specs.Properties.{first_of};
-ghost use Rattle.hv_plan.specs.Settings.{setting, passed, Settles, IsMachine, IsArea, ReadsAreas, TellsHost};
+ghost use Rattle.hv_plan.specs.Settings.{setting, passed, Settles};
+ghost use Rattle.hv_plan.specs.Reading.{IsMachine, IsArea, ReadsAreas, TellsHost};
 ghost use Rattle.hv_text.specs.Path.{path_text};
 
 use crate::nest::nest_of;
