@@ -90,7 +90,7 @@ not_true : (test : Bool) → not test ≡ true → test ≡ false
 not_true true is = absurd (false≢true is)
 not_true false is = refl
 
-at_least : (low high : ℕ) → leb low high ≡ true → low ≤ high
+pub at_least : (low high : ℕ) → leb low high ≡ true → low ≤ high
 at_least low high is = grind (arith, nat_tests)
 
 target_is : (region other : RegionPlan) (base : ℕ) → has_range region base other ≡ true → IsTarget region.kind base region.size other
@@ -132,7 +132,7 @@ length_rows : {X : Type 0} (row : ℕ) (xs : List X) → length (enumerate_from 
 length_rows row [] = refl
 length_rows row (x ∷ xs) = ap suc (length_rows (row + 1) xs)
 
-length_map : {X Y : Type 0} (f : X → Y) (xs : List X) → length (map f xs) ≡ length xs
+pub length_map : {X Y : Type 0} (f : X → Y) (xs : List X) → length (map f xs) ≡ length xs
 length_map f [] = refl
 length_map f (x ∷ xs) = ap suc (length_map f xs)
 

@@ -5,3 +5,4 @@ pub mod Parts
 pub mod Nests
 pub mod RuleLemmas
 pub mod Keeps
+pub mod HostKeeps

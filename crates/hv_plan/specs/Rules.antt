@@ -8,6 +8,7 @@ use Rattle.hv_region.specs.declared.plan.Form.TheVariants.{Real, Alias}
 use Rattle.hv_region.specs.declared.plan.RegionPlan.{RegionPlan}
 use Rattle.hv_plan.specs.Windows.{is_alias}
 use Rattle.hv_plan.specs.declared.guest.GuestPlan.{GuestPlan}
+use Rattle.hv_plan.specs.declared.host.Host.{Host}
 
 -- an area is there and has so many bytes
 abbrev pub HasBytes : ℕ → Option (List ℕ × ℕ) → Type 0
@@ -53,3 +54,17 @@ pub record KeepsRules (areas : List (List ℕ × ℕ)) (plan : GuestPlan) : Type
   pub in_areas : All (λ region. LiesInArea areas region.size region.form) plan.regions.items
   pub apart : AllPairs LieApart plan.regions.items
   pub targets : All (λ region. HasTarget plan.regions.items region region.form) plan.regions.items
+
+-- an area has 1 to 16777216 bytes
+pub record IsAreaSize (size : ℕ) : Type 0 where
+  pub least : 1 ≤ size
+  pub most : size ≤ 16777216
+
+-- settings are in range, and there are no more areas and guests than allowed
+pub record KeepsHostRules (host : Host) : Type 0 where
+  pub least_harts : 1 ≤ host.harts
+  pub most_harts : host.harts ≤ 8
+  pub turns : host.turns ≤ 100000
+  pub few_areas : length host.areas.items ≤ 8
+  pub sizes : All (λ area. IsAreaSize area.1) host.areas.items
+  pub few_guests : length host.guests.items ≤ 32
