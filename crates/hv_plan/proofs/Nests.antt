@@ -4,7 +4,8 @@ use Rattle.hv_dtree.specs.Nodes.{children_of}
 use Rattle.hv_dtree.specs.declared.node.Node.{Node}
 use Rattle.hv_dtree.specs.declared.node.Node.TheFolds.{fold_out-Node}
 use denote.Ref.{Bor}
-use Rattle.hv_plan.specs.Settings.{nest_of, greatest, all_children, nodes_at}
+use Rattle.hv_plan.specs.Settings.{nest_of, greatest}
+use Rattle.hv_plan.specs.Reading.{all_children, nodes_at}
 
 -- how deep the deepest of some nodes is
 abbrev pub deepest : List Node → ℕ

@@ -10,7 +10,8 @@ use Rattle.hv_plan.specs.Vcpus.{vcpu_causes}
 use Rattle.hv_plan.specs.Regions.{region_causes}
 use Rattle.hv_plan.specs.Links.{link_causes, region_plans}
 use Rattle.hv_plan.specs.Windows.{overlap_causes, alias_causes}
-use Rattle.hv_plan.specs.Guests.{Fault, faults_from, faults_of, own_faults, vcpu_faults, region_faults, link_faults, window_faults, alias_faults, guest_causes, causes_of_count, vcpus_of, regions_of, aspace_of, plans_of, in_vcpus, in_regions, Passes, Plans}
+use Rattle.hv_plan.specs.Guests.{Fault, faults_from, faults_of, own_faults, vcpu_faults, region_faults, link_faults, window_faults, alias_faults, guest_causes, causes_of_count, vcpus_of, regions_of, aspace_of, plans_of, in_vcpus, in_regions, Plans}
+use Rattle.hv_plan.specs.Reading.{Passes}
 use Rattle.hv_plan.specs.declared.refusal.PlanRefusal.{PlanRefusal}
 use Rattle.hv_plan.proofs.Faults.{told_part, none_first}
 

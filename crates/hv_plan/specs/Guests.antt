@@ -1,6 +1,5 @@
 -- The plan of a guest, or its first fault.
-use Rattle.std.specs.Prelude.{◌≡◌, ℕ, Bool, ◌||◌, List, [], ◌∷◌, ◌++◌, length, map, nat_lt, codes, Option, Some, None, Result, Ok, Err, Vec}
-use Rattle.std.specs.declared.alloc.Global.{Global}
+use Rattle.std.specs.Prelude.{◌≡◌, ℕ, Bool, ◌||◌, List, [], ◌∷◌, ◌++◌, length, map, nat_lt, codes, Option, Some, None, Result, Ok, Err}
 use Rattle.std.specs.List.{flat_map, enumerate_from}
 use Rattle.hv_text.specs.Path.{path_text}
 use Rattle.hv_dtree.specs.Nodes.{node_at, child_named, children_of, name_of}
@@ -107,23 +106,3 @@ Plans areas (Some guest) (Err (Memory e)) = Unit {0}
 -- the node of a guest
 abbrev pub guest_node : Node → List ℕ → Option Node
 guest_node root name = node_at (codes "guests" ∷ name ∷ []) root
-
--- what was read from some nodes where nothing is wrong, or the first of their faults
-abbrev pub Reads : {X : Type 0} → List Fault → List X → Result (Vec X Global) PlanRefusal → Type 0
-Reads faults items (Ok found) = (faults ≡ []) × (found.items ≡ items)
-Reads faults items (Err NoGuest) = ⊥
-Reads faults items (Err (BadNode path cause)) = first_of faults ≡ Some (path, cause)
-Reads faults items (Err (Memory e)) = Unit {0}
-
--- that nothing is wrong, or the first fault
-abbrev pub Passes : List Fault → Result (Unit {0}) PlanRefusal → Type 0
-Passes faults (Ok _) = faults ≡ []
-Passes faults (Err NoGuest) = ⊥
-Passes faults (Err (BadNode path cause)) = first_of faults ≡ Some (path, cause)
-Passes faults (Err (Memory e)) = Unit {0}
-
--- a fault, unless memory ran out
-abbrev pub Tells : Fault → PlanRefusal → Type 0
-Tells fault NoGuest = ⊥
-Tells fault (BadNode path cause) = (path, cause) ≡ fault
-Tells fault (Memory e) = Unit {0}

@@ -5,3 +5,5 @@ pub mod Regions
 pub mod Links
 pub mod Windows
 pub mod Guests
+pub mod Reading
+pub mod Rules

@@ -1,8 +1,5 @@
 -- The settings of a host and their limits.
-use Rattle.std.specs.Prelude.{◌≡◌, ℕ, ◌+◌, Bool, ◌&&◌, not, List, [], ◌∷◌, ◌++◌, length, map, filter, max, nat_le, if◌then◌else◌, codes, unwrap_or, true, false, Option, Some, None, Result, Ok, Err, Vec}
-use Rattle.std.specs.declared.alloc.Global.{Global}
-use denote.Ref.{Bor}
-use Rattle.std.specs.List.{flat_map}
+use Rattle.std.specs.Prelude.{◌≡◌, ℕ, ◌+◌, Bool, ◌&&◌, not, List, [], ◌∷◌, ◌++◌, length, map, filter, max, nat_le, if◌then◌else◌, codes, unwrap_or, Option, Some, Result, Ok, Err}
 use Rattle.std.specs.Option.{option_and_then, option_map_or}
 use Rattle.hv_text.specs.Path.{path_text}
 use Rattle.hv_text.specs.declared.limit.LimitName.{LimitName}
@@ -94,33 +91,3 @@ Settles root (Ok host) = (limits_passed root ≡ []) × (host_faults root ≡ []
 Settles root (Err (Limit name number)) = first_of (limits_passed root) ≡ Some (name, number)
 Settles root (Err (BadHost path)) = (limits_passed root ≡ []) × (first_of (host_faults root) ≡ Some path)
 Settles root (Err (Memory e)) = Unit {0}
-
--- the settings of harts and turns, or that they break their rules
-abbrev pub IsMachine : Node → Option (ℕ × ℕ) → Type 0
-IsMachine root None = is_machine root ≡ false
-IsMachine root (Some machine) = (is_machine root ≡ true) × (harts_of root ≡ Some machine.0) × (turns_of root ≡ Some machine.1)
-
--- how many bytes an area has, or that it breaks its rules
-abbrev pub IsArea : Node → Option ℕ → Type 0
-IsArea node None = is_area node ≡ false
-IsArea node (Some size) = (is_area node ≡ true) × (area_size node ≡ Some size)
-
--- a faulty node, unless memory ran out
-abbrev pub TellsHost : List ℕ → HostRefusal → Type 0
-TellsHost path (BadHost found) = found ≡ path
-TellsHost path (Limit name number) = ⊥
-TellsHost path (Memory e) = Unit {0}
-
--- the areas of nodes, or the first faulty one
-abbrev pub ReadsAreas : List Node → Result (Vec (List ℕ × ℕ) Global) HostRefusal → Type 0
-ReadsAreas nodes (Ok areas) = (area_faults nodes ≡ []) × (areas.items ≡ map area_of_node nodes)
-ReadsAreas nodes (Err (BadHost path)) = first_of (area_faults nodes) ≡ Some path
-ReadsAreas nodes (Err (Limit name number)) = ⊥
-ReadsAreas nodes (Err (Memory e)) = Unit {0}
-
--- nodes that are lent, and the children of all of some nodes
-abbrev pub nodes_at : List (Bor Node) → List Node
-nodes_at lent = map (λ node. node.now) lent
-
-abbrev pub all_children : List Node → List Node
-all_children nodes = flat_map children_of nodes

@@ -1,5 +1,5 @@
 //! The plan of a guest.
-ghost use Rattle.std.specs.Prelude.{◌≡◌, ◌≤◌, [], Some, length, map};
+ghost use Rattle.std.specs.Prelude.{◌≡◌, ◌≤◌, [], Some, length, map, IfOk};
 ghost use Rattle.std.specs.Option.{option_copied};
 ghost use Rattle.hv_dtree.specs.Nodes.{name_of};
 ghost use Rattle.hv_plan.specs.Properties.{first_of};
@@ -7,7 +7,9 @@ ghost use Rattle.hv_plan.specs.Vcpus.{vcpu_causes, vcpu_plan};
 ghost use Rattle.hv_plan.specs.Regions.{region_causes};
 ghost use Rattle.hv_plan.specs.Links.{link_causes, links_of, region_plans};
 ghost use Rattle.hv_plan.specs.Windows.{overlap_causes, alias_causes};
-ghost use Rattle.hv_plan.specs.Guests.{Plans, Reads, Passes, guest_node, faults_from, causes_of_count, in_vcpus, in_regions};
+ghost use Rattle.hv_plan.specs.Rules.{KeepsRules};
+ghost use Rattle.hv_plan.specs.Guests.{Plans, guest_node, faults_from, causes_of_count, in_vcpus, in_regions};
+ghost use Rattle.hv_plan.specs.Reading.{Reads, Passes};
 
 use crate::link::{clock_row, link_cause, links_of, region_plan};
 use crate::path::{guest_fault, inner_fault};
@@ -200,7 +202,9 @@ pub fn plan_guest(
     name: &[u8],
 ) -> Result<GuestPlan, PlanRefusal>
     requires { length areas.now ≤ 8 }
-    ensures { Plans areas.now (guest_node tree.now name.now) result }
+    ensures plan { Plans areas.now (guest_node tree.now name.now) result }
+    // What is given has numbers in range, lies within the areas, and its windows have no address in common.
+    ensures rules { IfOk result (KeepsRules areas.now) }
 {
     plan_below(alloc, tree.root(), areas, name)
 }

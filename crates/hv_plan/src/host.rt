@@ -2,7 +2,9 @@
 ghost use Rattle.std.specs.Prelude.{◌≡◌, [], ◌∷◌, map, codes, IfOk};
 ghost use Rattle.hv_dtree.specs.Nodes.{name_of};
 ghost use Rattle.hv_plan.specs.Properties.{first_of};
-ghost use Rattle.hv_plan.specs.Settings.{setting, passed, Settles, IsMachine, IsArea, ReadsAreas, TellsHost};
+ghost use Rattle.hv_plan.specs.Rules.{KeepsHostRules};
+ghost use Rattle.hv_plan.specs.Settings.{setting, passed, Settles};
+ghost use Rattle.hv_plan.specs.Reading.{IsMachine, IsArea, ReadsAreas, TellsHost};
 ghost use Rattle.hv_text.specs.Path.{path_text};
 
 use crate::nest::nest_of;
@@ -164,7 +166,9 @@ pub(crate) fn settings_below(alloc: Global, root: &Node) -> Result<Host, HostRef
 
 /// The settings of a tree's host.
 pub fn host_settings(alloc: Global, tree: &Tree) -> Result<Host, HostRefusal>
-    ensures { Settles tree.now result }
+    ensures host { Settles tree.now result }
+    // What is given has numbers in range.
+    ensures rules { IfOk result KeepsHostRules }
 {
     settings_below(alloc, tree.root())
 }

@@ -1,7 +1,8 @@
 //! How many nodes of a tree lie in one another.
 ghost use Rattle.std.specs.Prelude.{◌≡◌, ◌+◌, ◌++◌, map, IfOk, OnOk};
 ghost use Rattle.hv_dtree.specs.Nodes.{children_of};
-ghost use Rattle.hv_plan.specs.Settings.{nest_of, nodes_at, all_children};
+ghost use Rattle.hv_plan.specs.Settings.{nest_of};
+ghost use Rattle.hv_plan.specs.Reading.{nodes_at, all_children};
 
 use hv_dtree::Node;
 use std::alloc::{AllocError, Global};

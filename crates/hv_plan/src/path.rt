@@ -1,7 +1,7 @@
 //! Paths of faulty nodes.
 ghost use Rattle.std.specs.Prelude.{◌≡◌, ◌∷◌, ◌++◌, [], codes, IfOk, OnOk};
 ghost use Rattle.hv_text.specs.Path.{path_text};
-ghost use Rattle.hv_plan.specs.Guests.{Tells};
+ghost use Rattle.hv_plan.specs.Reading.{Tells};
 
 use crate::refusal::{Cause, PlanRefusal};
 use hv_text::Bytes;

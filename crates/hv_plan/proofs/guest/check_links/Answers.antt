@@ -4,7 +4,8 @@ use Rattle.hv_text.specs.Path.{path_text}
 use Rattle.hv_dtree.specs.Nodes.{name_of}
 use Rattle.hv_plan.specs.Properties.{first_of}
 use Rattle.hv_plan.specs.Links.{link_of, link_causes, causes_of_link}
-use Rattle.hv_plan.specs.Guests.{faults_from, in_regions, Tells}
+use Rattle.hv_plan.specs.Guests.{faults_from, in_regions}
+use Rattle.hv_plan.specs.Reading.{Tells}
 use Rattle.hv_plan.proofs.Faults.{fault_here, told, none_first, pass_one, mapped_at}
 use Rattle.hv_plan.proofs.guest.check_links.Goals as goal
 

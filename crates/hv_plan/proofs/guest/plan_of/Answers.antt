@@ -2,7 +2,8 @@ use Rattle.std.proofs.Common.{◌≡◌, List, [], map, subst, sym, ◌∙◌}
 use Rattle.std.specs.Prelude.{Some, Err}
 use Rattle.hv_plan.specs.Vcpus.{vcpu_plan}
 use Rattle.hv_plan.specs.Links.{region_plans}
-use Rattle.hv_plan.specs.Guests.{Fault, Passes, own_faults, vcpu_faults, region_faults, link_faults, window_faults, aspace_of, plans_of}
+use Rattle.hv_plan.specs.Guests.{Fault, own_faults, vcpu_faults, region_faults, link_faults, window_faults, aspace_of, plans_of}
+use Rattle.hv_plan.specs.Reading.{Passes}
 use Rattle.hv_plan.proofs.Faults.{passes_from_reads}
 use Rattle.hv_plan.proofs.Parts.{own_from, vcpus_are, regions_are, links_are, plans_are, windows_are, aliases_are, told_vcpu, told_region, told_link, told_window, told_alias, space_left, aliases_left}
 use Rattle.hv_plan.proofs.guest.plan_of.Goals as goal

@@ -4,7 +4,8 @@ use Rattle.hv_text.specs.Path.{path_text}
 use Rattle.hv_dtree.specs.Nodes.{name_of}
 use Rattle.hv_plan.specs.Regions.{region_causes}
 use Rattle.hv_plan.specs.Links.{region_plan, region_plans}
-use Rattle.hv_plan.specs.Guests.{faults_from, in_regions, Tells}
+use Rattle.hv_plan.specs.Guests.{faults_from, in_regions}
+use Rattle.hv_plan.specs.Reading.{Tells}
 use Rattle.hv_plan.proofs.Faults.{fault_here, told_reading, none_first, pass_one, row_more}
 use Rattle.hv_plan.proofs.guest.read_regions.Goals as goal
 

@@ -2,7 +2,8 @@ use Rattle.std.proofs.Common.{ℕ, List, [], ◌∷◌, ◌++◌, map, subst}
 use Rattle.hv_text.specs.Path.{path_text}
 use Rattle.hv_dtree.specs.Nodes.{name_of}
 use Rattle.hv_plan.specs.Vcpus.{vcpu_causes, vcpu_plan}
-use Rattle.hv_plan.specs.Guests.{faults_from, in_vcpus, Tells}
+use Rattle.hv_plan.specs.Guests.{faults_from, in_vcpus}
+use Rattle.hv_plan.specs.Reading.{Tells}
 use Rattle.hv_plan.proofs.Faults.{fault_here, told_reading}
 use Rattle.hv_plan.proofs.guest.read_vcpus.Goals as goal
 

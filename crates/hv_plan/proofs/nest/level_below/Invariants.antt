@@ -1,5 +1,5 @@
 use Rattle.std.proofs.Common.{◌≡◌, take}
-use Rattle.hv_plan.specs.Settings.{nodes_at, all_children}
+use Rattle.hv_plan.specs.Reading.{nodes_at, all_children}
 use Rattle.hv_plan.proofs.nest.level_below.Given as goal
 
 abbrev pub invariant-loop-node : goal.invariant-loop-node

@@ -1,5 +1,6 @@
 use Rattle.std.proofs.Common.{◌≡◌, ◌+◌}
-use Rattle.hv_plan.specs.Settings.{nest_of, nodes_at}
+use Rattle.hv_plan.specs.Settings.{nest_of}
+use Rattle.hv_plan.specs.Reading.{nodes_at}
 use Rattle.hv_plan.proofs.Nests.{deepest}
 use Rattle.hv_plan.proofs.nest.nest_of.Given as goal
 

@@ -1,5 +1,5 @@
 use Rattle.std.proofs.Common.{◌≡◌, ◌++◌, take}
-use Rattle.hv_plan.specs.Settings.{nodes_at}
+use Rattle.hv_plan.specs.Reading.{nodes_at}
 use Rattle.hv_plan.proofs.nest.push_children.Given as goal
 
 abbrev pub invariant-loop-child : goal.invariant-loop-child

@@ -1,0 +1,70 @@
+-- What holds of each plan that is given.
+use Rattle.std.specs.Prelude.{◌≡◌, ℕ, ◌+◌, ◌<◌, ◌≤◌, false, List, length, All, slice_get, Option, Some, None}
+use Rattle.std.specs.List.{AllPairs, Any}
+use Rattle.hv_text.specs.declared.address.AddressType.{AddressType}
+use Rattle.hv_region.specs.Plans.{IsVcpuPlan, IsRegionPlan}
+use Rattle.hv_region.specs.declared.plan.Form.{Form}
+use Rattle.hv_region.specs.declared.plan.Form.TheVariants.{Real, Alias}
+use Rattle.hv_region.specs.declared.plan.RegionPlan.{RegionPlan}
+use Rattle.hv_plan.specs.Windows.{is_alias}
+use Rattle.hv_plan.specs.declared.guest.GuestPlan.{GuestPlan}
+use Rattle.hv_plan.specs.declared.host.Host.{Host}
+
+-- an area is there and has so many bytes
+abbrev pub HasBytes : ℕ → Option (List ℕ × ℕ) → Type 0
+HasBytes end None = ⊥
+HasBytes end (Some area) = end ≤ area.1
+
+-- a region that shows an area lies within it
+abbrev pub LiesInArea : List (List ℕ × ℕ) → ℕ → Form → Type 0
+LiesInArea areas size (Real area offset) = HasBytes (offset + size) (slice_get areas area)
+LiesInArea areas size _ = Unit {0}
+
+-- some address of one type lies in both regions
+pub record Share (one other : RegionPlan) : Type 0 where
+  pub type : one.kind ≡ other.kind
+  pub front : one.base < other.base + other.size
+  pub back : other.base < one.base + one.size
+
+-- regions that are to be built have no address in common
+abbrev pub LieApart : RegionPlan → RegionPlan → Type 0
+LieApart one other = one.detached ≡ false → other.detached ≡ false → Share one other → ⊥
+
+-- a region is to be built, is no alias and has a whole range
+pub record IsTarget (type : AddressType) (base size : ℕ) (region : RegionPlan) : Type 0 where
+  pub built : region.detached ≡ false
+  pub own : is_alias region.form ≡ false
+  pub kind : region.kind ≡ type
+  pub from : region.base ≤ base
+  pub to : base + size ≤ region.base + region.size
+
+-- an alias that is to be built stands for a part of such a region
+abbrev pub HasTarget : List RegionPlan → RegionPlan → Form → Type 0
+HasTarget regions region (Alias base) = region.detached ≡ false → Any (IsTarget region.kind base region.size) regions
+HasTarget regions region _ = Unit {0}
+
+-- a guest has 1 to 4 VCPUs and 1 to 16 regions that keep the rules, whose windows lie apart and whose aliases have targets
+pub record KeepsRules (areas : List (List ℕ × ℕ)) (plan : GuestPlan) : Type 0 where
+  pub some_vcpus : 1 ≤ length plan.vcpus.items
+  pub few_vcpus : length plan.vcpus.items ≤ 4
+  pub some_regions : 1 ≤ length plan.regions.items
+  pub few_regions : length plan.regions.items ≤ 16
+  pub vcpus : All IsVcpuPlan plan.vcpus.items
+  pub regions : All IsRegionPlan plan.regions.items
+  pub in_areas : All (λ region. LiesInArea areas region.size region.form) plan.regions.items
+  pub apart : AllPairs LieApart plan.regions.items
+  pub targets : All (λ region. HasTarget plan.regions.items region region.form) plan.regions.items
+
+-- an area has 1 to 16777216 bytes
+pub record IsAreaSize (size : ℕ) : Type 0 where
+  pub least : 1 ≤ size
+  pub most : size ≤ 16777216
+
+-- settings are in range, and there are no more areas and guests than allowed
+pub record KeepsHostRules (host : Host) : Type 0 where
+  pub least_harts : 1 ≤ host.harts
+  pub most_harts : host.harts ≤ 8
+  pub turns : host.turns ≤ 100000
+  pub few_areas : length host.areas.items ≤ 8
+  pub sizes : All (λ area. IsAreaSize area.1) host.areas.items
+  pub few_guests : length host.guests.items ≤ 32
