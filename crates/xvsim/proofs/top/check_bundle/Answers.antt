@@ -1,10 +1,13 @@
+use Rattle.std.proofs.Common.{subst}
+use Rattle.std.specs.Io.KnownBytes.{Appends}
+use Rattle.hv_base.specs.Writing.{AppendsFront}
 use Rattle.xvsim.proofs.Told.{follows, good_of, check_of}
 use Rattle.xvsim.specs.Check.{IsCheckOf, AppendsCheck, AppendsCheckFront}
 use Rattle.xvsim.proofs.top.check_bundle.Goals as goal
 
 pub returns-in-Ok-write_all-clause-check : goal.returns-in-Ok-write_all-clause-check
 returns-in-Ok-write_all-clause-check g c = λ done.
-    follows (λ bytes. IsCheckOf bytes c.in-Ok-check_text.text) _ _ (λ bytes is. record { text = c.in-Ok-check_text.text; is_check = is; appended = ? })
+    follows (λ bytes. IsCheckOf bytes c.in-Ok-check_text.text) _ _ (λ bytes is. record { text = c.in-Ok-check_text.text; is_check = is; appended = subst (Appends _ _) c.as_slice.ensures c.in-Ok-write_all.ensures.ok })
     (check_of _ _ _ c.in-Ok.input c.in-Ok-check_text.text c.in-Ok.ensures.whole c.in-Ok.ensures.all c.in-Ok-check_text.ensures)
 
 pub returns-in-Ok-write_all-clause-due : goal.returns-in-Ok-write_all-clause-due
@@ -12,7 +15,7 @@ returns-in-Ok-write_all-clause-due g c = good_of _ _ _ c.in-Ok.input c.in-Ok.ens
 
 pub returns-in-Ok-check_text-clause-cut_short : goal.returns-in-Ok-check_text-clause-cut_short
 returns-in-Ok-check_text-clause-cut_short g c = λ done.
-    follows (λ bytes. IsCheckOf bytes c.in-Ok-check_text.text) _ _ (λ bytes is. record { text = c.in-Ok-check_text.text; is_check = is; appended = ? })
+    follows (λ bytes. IsCheckOf bytes c.in-Ok-check_text.text) _ _ (λ bytes is. record { text = c.in-Ok-check_text.text; is_check = is; appended = subst (AppendsFront _ _) c.as_slice.ensures c.in-Err-write_all.ensures.front })
     (check_of _ _ _ c.in-Ok.input c.in-Ok-check_text.text c.in-Ok.ensures.whole c.in-Ok.ensures.all c.in-Ok-check_text.ensures)
 
 pub returns-in-Ok-check_text-clause-due : goal.returns-in-Ok-check_text-clause-due
