@@ -6,18 +6,18 @@ use std::test::Fail;
 
 const TREE: &[u8] = b"/dts-v1/;
 / {
-	vmm { harts = <1>; turns = <200>; };
-	areas { ring { size = <4096>; }; };
-	guests {
-		g0 {
-			vcpus { v0 { start_pc = <0x80000000>; }; };
-			aspace {
-				ram { manifest_type = \"virtual\"; address_type = \"memory\"; guest_physical_addr = <0x80000000>; physical_size = <0x10000>; device_type = \"ram\"; };
-				ring { manifest_type = \"real\"; address_type = \"memory\"; guest_physical_addr = <0x90000000>; physical_size = <4096>; host_area = \"ring\"; };
-			};
-		};
-		g1 { vcpus { v0 { }; }; aspace { ram { }; }; };
-	};
+    vmm { harts = <1>; turns = <200>; };
+    areas { ring { size = <4096>; }; };
+    guests {
+        g0 {
+            vcpus { v0 { start_pc = <0x80000000>; }; };
+            aspace {
+                ram { manifest_type = \"virtual\"; address_type = \"memory\"; guest_physical_addr = <0x80000000>; physical_size = <0x10000>; device_type = \"ram\"; };
+                ring { manifest_type = \"real\"; address_type = \"memory\"; guest_physical_addr = <0x90000000>; physical_size = <4096>; host_area = \"ring\"; };
+            };
+        };
+        g1 { vcpus { v0 { }; }; aspace { ram { }; }; };
+    };
 };";
 
 #[test]
@@ -64,9 +64,10 @@ fn refuses_what_is_no_host_tree(rt: HostRuntime) -> Result<(), Fail> {
         Some(b"/dts-v1/; / { areas { a {}; b {}; c {}; d {}; e {}; f {}; g {}; h {}; i {}; }; };"),
     );
     assert!(rt; matches!(areas, Err(BoardRefusal::Limit(LimitName::Areas, 9))));
-    let Err(BoardRefusal::BadHost(path)) =
-        read_board(alloc, Some(b"/dts-v1/; / { areas { a { size = <0>; }; }; };"))
-    else {
+    let Err(BoardRefusal::BadHost(path)) = read_board(
+        alloc,
+        Some(b"/dts-v1/; / { areas { a { size = <0>; }; }; };"),
+    ) else {
         assert!(rt; false);
         return Ok(());
     };

@@ -143,6 +143,11 @@ pub fn check_text(alloc: Global, input: &Input) -> Result<Bytes, AllocError>
     push_bundle(alloc, &mut text, input.files.len(), input.size)?;
     push_files(alloc, &mut text, &input.files)?;
     push_host(alloc, &mut text, &input.board.host)?;
-    push_guests(alloc, &mut text, &input.board.host.guests, &input.board.plans)?;
+    push_guests(
+        alloc,
+        &mut text,
+        &input.board.host.guests,
+        &input.board.plans,
+    )?;
     Ok(text)
 }

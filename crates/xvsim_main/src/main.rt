@@ -4,10 +4,9 @@
 use hv_base::{InSource, OutSink};
 use std::alloc::{AllocError, Global};
 use std::env::{self, Env};
-use std::io;
 use std::io::Write;
 use std::process::ExitCode;
-use std::str;
+use std::{io, str};
 use xvsim::{Kept, Status, xvsim};
 
 /// The words behind the program's name. Words that are no text are wrong words.
@@ -66,7 +65,10 @@ fn tell(rt: &impl Eprint, status: &Status) -> io::Result<()> {
         Status::Limit { name, number } => { eprintln!(rt; "xvsim: limit {} {number}", name.name()) }
         Status::StampsSpent { .. } => eprintln!(rt; "xvsim: stamps spent"),
         Status::BadHost { path } => {
-            eprintln!(rt; "xvsim: bad host {}", str::from_utf8(path.as_slice()).unwrap_or(""))
+            eprintln!(rt;
+                "xvsim: bad host {}",
+                str::from_utf8(path.as_slice()).unwrap_or("")
+            )
         }
         Status::OutOfMemory => eprintln!(rt; "xvsim: out of memory"),
     }
