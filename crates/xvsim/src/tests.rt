@@ -203,8 +203,12 @@ fn says_where_a_host_tree_is_bad(rt: HostRuntime) -> Result<(), Fail> {
 fn says_which_setting_is_bad(rt: HostRuntime) -> Result<(), Fail> {
     let tree = b"/dts-v1/; / { vmm { harts = <9>; }; };".as_slice();
     let host = one_file(rt.alloc(), b"/host.dts", tree)?;
-    let refused = call(rt.alloc(), &["check"], host.as_slice(), 100, &[], &[])?;
-    let Status::BadHost { path } = refused.status else {
+    let Outcome {
+        status,
+        written: _,
+        is_kept: _,
+    } = call(rt.alloc(), &["check"], host.as_slice(), 100, &[], &[])?;
+    let Status::BadHost { path } = status else {
         assert!(rt; false);
         return Ok(());
     };
