@@ -8,3 +8,4 @@ pub mod Lines
 pub mod Printed
 pub mod Unique
 pub mod Assemblies
+pub mod Images

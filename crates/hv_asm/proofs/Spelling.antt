@@ -23,7 +23,7 @@ pub number_free_40 : (text : List ℕ) (z : ℤ) → number_value text ≡ Some 
 number_free_40 text z h = value_free 40 text z (omega arith) (λ is. omega (arith, is)) (λ is. omega (arith, is)) h
 
 -- two registers with one name are one
-same_register : (m n : ℕ) → m < 32 → n < 32 → register_text m ≡ register_text n → m ≡ n
+pub same_register : (m n : ℕ) → m < 32 → n < 32 → register_text m ≡ register_text n → m ≡ n
 same_register m n small other is = decimal_injective m n (omega arith) (omega arith) (cc)
 
 -- lists that end alike begin alike

@@ -5,3 +5,4 @@ pub mod Line
 pub mod Candidates
 pub mod Reading
 pub mod Assembly
+pub mod Image
