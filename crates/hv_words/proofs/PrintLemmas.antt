@@ -261,6 +261,7 @@ row_visible (command.VfsDts path) = (graphic_word (codes "vfs") refl refl, graph
 row_visible (command.VfsMkdir path) = (graphic_word (codes "vfs") refl refl, graphic_word (codes "mkdir") refl refl)
 row_visible (command.VfsRm path) = (graphic_word (codes "vfs") refl refl, graphic_word (codes "rm") refl refl)
 row_visible (command.VfsWrite path text) = (graphic_word (codes "vfs") refl refl, graphic_word (codes "write") refl refl)
+row_visible (command.VfsAsm source target) = (graphic_word (codes "vfs") refl refl, graphic_word (codes "asm") refl refl)
 row_visible (command.VfsRun path) = (graphic_word (codes "vfs") refl refl, graphic_word (codes "run") refl refl)
 row_visible (command.TermRest count) = (graphic_word (codes "term") refl refl, graphic_word (codes "rest") refl refl)
 

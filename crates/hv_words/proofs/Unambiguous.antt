@@ -24,6 +24,7 @@ name_of (command.VfsDts path) = row.VfsDts
 name_of (command.VfsMkdir path) = row.VfsMkdir
 name_of (command.VfsRm path) = row.VfsRm
 name_of (command.VfsWrite path text) = row.VfsWrite
+name_of (command.VfsAsm source target) = row.VfsAsm
 name_of (command.VfsRun path) = row.VfsRun
 name_of (command.TermRest count) = row.TermRest
 
@@ -34,6 +35,7 @@ row_by_name (command.VfsDts path) = refl
 row_by_name (command.VfsMkdir path) = refl
 row_by_name (command.VfsRm path) = refl
 row_by_name (command.VfsWrite path text) = refl
+row_by_name (command.VfsAsm source target) = refl
 row_by_name (command.VfsRun path) = refl
 row_by_name (command.TermRest count) = refl
 
@@ -45,6 +47,7 @@ some_command row.VfsDts = (command.VfsDts [], refl)
 some_command row.VfsMkdir = (command.VfsMkdir [], refl)
 some_command row.VfsRm = (command.VfsRm [], refl)
 some_command row.VfsWrite = (command.VfsWrite [] [], refl)
+some_command row.VfsAsm = (command.VfsAsm [] [], refl)
 some_command row.VfsRun = (command.VfsRun [], refl)
 some_command row.TermRest = (command.TermRest 0, refl)
 
@@ -56,6 +59,7 @@ row_found (command.VfsDts path) = refl
 row_found (command.VfsMkdir path) = refl
 row_found (command.VfsRm path) = refl
 row_found (command.VfsWrite path text) = refl
+row_found (command.VfsAsm source target) = refl
 row_found (command.VfsRun path) = refl
 row_found (command.TermRest count) = refl
 
@@ -76,6 +80,7 @@ command_with row.VfsDts (PathGiven path ∷ []) = Some (command.VfsDts path)
 command_with row.VfsMkdir (PathGiven path ∷ []) = Some (command.VfsMkdir path)
 command_with row.VfsRm (PathGiven path ∷ []) = Some (command.VfsRm path)
 command_with row.VfsWrite (PathGiven path ∷ TextGiven text ∷ []) = Some (command.VfsWrite path text)
+command_with row.VfsAsm (PathGiven source ∷ PathGiven target ∷ []) = Some (command.VfsAsm source target)
 command_with row.VfsRun (PathGiven path ∷ []) = Some (command.VfsRun path)
 command_with row.TermRest (NumberGiven count ∷ []) = Some (command.TermRest count)
 command_with _ _ = None
@@ -88,6 +93,7 @@ command_found (command.VfsDts path) = refl
 command_found (command.VfsMkdir path) = refl
 command_found (command.VfsRm path) = refl
 command_found (command.VfsWrite path text) = refl
+command_found (command.VfsAsm source target) = refl
 command_found (command.VfsRun path) = refl
 command_found (command.TermRest count) = refl
 

@@ -63,6 +63,7 @@ row_of (command.VfsDts _) = record { family = codes "vfs"; name = codes "dts"; k
 row_of (command.VfsMkdir _) = record { family = codes "vfs"; name = codes "mkdir"; kinds = NamedPath ∷ [] }
 row_of (command.VfsRm _) = record { family = codes "vfs"; name = codes "rm"; kinds = NamedPath ∷ [] }
 row_of (command.VfsWrite _ _) = record { family = codes "vfs"; name = codes "write"; kinds = NamedPath ∷ SomeText ∷ [] }
+row_of (command.VfsAsm _ _) = record { family = codes "vfs"; name = codes "asm"; kinds = AnyPath ∷ NamedPath ∷ [] }
 row_of (command.VfsRun _) = record { family = codes "vfs"; name = codes "run"; kinds = AnyPath ∷ [] }
 row_of (command.TermRest _) = record { family = codes "term"; name = codes "rest"; kinds = RestCount ∷ [] }
 
@@ -74,6 +75,7 @@ arguments_of (command.VfsDts path) = PathGiven path ∷ []
 arguments_of (command.VfsMkdir path) = PathGiven path ∷ []
 arguments_of (command.VfsRm path) = PathGiven path ∷ []
 arguments_of (command.VfsWrite path text) = PathGiven path ∷ TextGiven text ∷ []
+arguments_of (command.VfsAsm source target) = PathGiven source ∷ PathGiven target ∷ []
 arguments_of (command.VfsRun path) = PathGiven path ∷ []
 arguments_of (command.TermRest count) = NumberGiven count ∷ []
 

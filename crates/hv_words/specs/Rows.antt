@@ -3,7 +3,7 @@ use Rattle.std.specs.Prelude.{◌≡◌, ℕ, nat_eq, Bool, if◌then◌else◌,
 use Rattle.std.specs.Cmp.Lexicographic.{pointwise}
 use Rattle.hv_words.specs.Commands.{Row, AnyPath, NamedPath, SomeText, RestCount}
 use Rattle.hv_words.specs.declared.row.RowName.{RowName}
-use Rattle.hv_words.specs.declared.row.RowName.TheVariants.{VfsLs, VfsCat, VfsDts, VfsMkdir, VfsRm, VfsWrite, VfsRun, TermRest}
+use Rattle.hv_words.specs.declared.row.RowName.TheVariants.{VfsLs, VfsCat, VfsDts, VfsMkdir, VfsRm, VfsWrite, VfsAsm, VfsRun, TermRest}
 
 -- the row of a name
 abbrev pub row_named : RowName → Row
@@ -13,6 +13,7 @@ row_named VfsDts = record { family = codes "vfs"; name = codes "dts"; kinds = An
 row_named VfsMkdir = record { family = codes "vfs"; name = codes "mkdir"; kinds = NamedPath ∷ [] }
 row_named VfsRm = record { family = codes "vfs"; name = codes "rm"; kinds = NamedPath ∷ [] }
 row_named VfsWrite = record { family = codes "vfs"; name = codes "write"; kinds = NamedPath ∷ SomeText ∷ [] }
+row_named VfsAsm = record { family = codes "vfs"; name = codes "asm"; kinds = AnyPath ∷ NamedPath ∷ [] }
 row_named VfsRun = record { family = codes "vfs"; name = codes "run"; kinds = AnyPath ∷ [] }
 row_named TermRest = record { family = codes "term"; name = codes "rest"; kinds = RestCount ∷ [] }
 
@@ -34,7 +35,8 @@ file_row name =
     if is_word name (codes "mkdir") then Some VfsMkdir else (
     if is_word name (codes "rm") then Some VfsRm else (
     if is_word name (codes "write") then Some VfsWrite else (
-    if is_word name (codes "run") then Some VfsRun else None))))))
+    if is_word name (codes "asm") then Some VfsAsm else (
+    if is_word name (codes "run") then Some VfsRun else None)))))))
 
 -- the row of terminals with a name
 abbrev pub rest_row : List ℕ → Option RowName

@@ -16,6 +16,8 @@ pub enum Command {
     VfsRm(Path),
     /// `vfs write P TEXT`
     VfsWrite(Path, Bytes),
+    /// `vfs asm P P`: what is read, and what is written
+    VfsAsm(Path, Path),
     /// `vfs run P`
     VfsRun(Path),
     /// `term rest K`, with K from 1 to 10000

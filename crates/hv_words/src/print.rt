@@ -66,6 +66,15 @@ fn write_line(alloc: Global, path: &Path, text: &Bytes) -> Result<Bytes, AllocEr
     Ok(line)
 }
 
+fn asm_line(alloc: Global, source: &Path, target: &Path) -> Result<Bytes, AllocError>
+    ensures { IfOk result (λ line. line ≡ command_text (Command.VfsAsm source.now target.now)) }
+{
+    let mut line = path_line(alloc, b"vfs asm ", source)?;
+    line.append(b" ")?;
+    line.append(target.text(alloc)?.as_slice())?;
+    Ok(line)
+}
+
 fn rest_line(alloc: Global, count: u64) -> Result<Bytes, AllocError>
     ensures { IfOk result (λ line. line ≡ command_text (Command.TermRest count)) }
 {
@@ -84,6 +93,7 @@ fn line_of(alloc: Global, command: &Command) -> Result<Bytes, AllocError>
         Command::VfsMkdir(path) => path_line(alloc, b"vfs mkdir ", path),
         Command::VfsRm(path) => path_line(alloc, b"vfs rm ", path),
         Command::VfsWrite(path, text) => write_line(alloc, path, text),
+        Command::VfsAsm(source, target) => asm_line(alloc, source, target),
         Command::VfsRun(path) => path_line(alloc, b"vfs run ", path),
         Command::TermRest(count) => rest_line(alloc, *count),
     }

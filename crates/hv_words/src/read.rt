@@ -108,6 +108,20 @@ fn read_write(alloc: Global, text: &[u8]) -> Result<Command, WordsRefusal>
     Ok(Command::VfsWrite(path, bytes))
 }
 
+/// The path of the text and that of its image.
+fn read_asm(alloc: Global, text: &[u8]) -> Result<Command, WordsRefusal>
+    ensures { MatchResult result
+        (λ command. HasArguments (row_named RowName.VfsAsm) (words text.now) command)
+        (λ refusal. AreRefusedFrom (AnyPath ∷ NamedPath ∷ []) (words text.now) 3 refusal) }
+{
+    let Some((word, rest)) = next_word(text) else {
+        return Err(WordsRefusal::BadWords(FIRST_ARGUMENT));
+    };
+    let source = read_path(alloc, word, FIRST_ARGUMENT)?;
+    let target = only_named_path(alloc, rest, FIRST_ARGUMENT + 1)?;
+    Ok(Command::VfsAsm(source, target))
+}
+
 /// The command of a row whose arguments are the words of a text.
 fn read_arguments(alloc: Global, row: RowName, text: &[u8]) -> Result<Command, WordsRefusal>
     ensures { MatchResult result
@@ -121,6 +135,7 @@ fn read_arguments(alloc: Global, row: RowName, text: &[u8]) -> Result<Command, W
         RowName::VfsMkdir => Ok(Command::VfsMkdir(only_named_path(alloc, text, FIRST_ARGUMENT)?)),
         RowName::VfsRm => Ok(Command::VfsRm(only_named_path(alloc, text, FIRST_ARGUMENT)?)),
         RowName::VfsWrite => read_write(alloc, text),
+        RowName::VfsAsm => read_asm(alloc, text),
         RowName::VfsRun => Ok(Command::VfsRun(only_path(alloc, text)?)),
         RowName::TermRest => Ok(Command::TermRest(only_count(text)?)),
     }

@@ -11,6 +11,7 @@ pub enum RowName {
     VfsMkdir,
     VfsRm,
     VfsWrite,
+    VfsAsm,
     VfsRun,
     TermRest,
 }
@@ -36,6 +37,9 @@ fn file_row(name: &[u8]) -> Option<RowName>
     }
     if name == b"write".as_slice() {
         return Some(RowName::VfsWrite);
+    }
+    if name == b"asm".as_slice() {
+        return Some(RowName::VfsAsm);
     }
     if name == b"run".as_slice() {
         return Some(RowName::VfsRun);

@@ -41,6 +41,7 @@ fn short(alloc: Global, line: &[u8]) -> &'static str {
         Ok(Command::VfsMkdir(_)) => "mkdir",
         Ok(Command::VfsRm(_)) => "rm",
         Ok(Command::VfsWrite(_, _)) => "write",
+        Ok(Command::VfsAsm(_, _)) => "asm",
         Ok(Command::VfsRun(_)) => "run",
         Ok(Command::TermRest(_)) => "rest",
         Err(WordsRefusal::NoCommand) => "none",
@@ -65,6 +66,11 @@ fn reads_each_row_and_its_refusals(rt: HostRuntime) {
         (b"vfs dts /host.dts".as_slice(), "dts"),
         (b"vfs dts".as_slice(), "bad 3"),
         (b"vfs dts / /".as_slice(), "bad 4"),
+        (b"vfs asm / /b".as_slice(), "asm"),
+        (b"vfs asm a /b".as_slice(), "bad 3"),
+        (b"vfs asm /a /".as_slice(), "bad 4"),
+        (b"vfs asm /a".as_slice(), "bad 4"),
+        (b"vfs asm /a /b /c".as_slice(), "bad 5"),
         (b"vfs fly".as_slice(), "none"),
         (b"vfs".as_slice(), "none"),
         (b"term ls /".as_slice(), "none"),
@@ -112,6 +118,7 @@ fn prints_what_is_read_back(rt: HostRuntime) {
     for (line, wanted) in [
         (b"  vfs  ls   /a/b ".as_slice(), b"vfs ls /a/b".as_slice()),
         (b"term rest 0x0A".as_slice(), b"term rest 10".as_slice()),
+        (b"vfs  asm /a   /b".as_slice(), b"vfs asm /a /b".as_slice()),
         (
             b"vfs write /x a\\x20\\s\\x0a\\x5C\\x7F\\xfe\\x00~!".as_slice(),
             b"vfs write /x a\\s\\s\\n\\\\\\x7f\\xfe\\x00~!".as_slice(),
