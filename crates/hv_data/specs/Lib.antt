@@ -1,0 +1,4 @@
+pub mod Text
+pub mod Written
+pub mod Reading
+pub mod Data
