@@ -1,4 +1,4 @@
-pub mod Printing
+pub mod Reread
 pub mod Twice
 pub mod Nesting
 pub mod Labels

@@ -2,7 +2,7 @@ pub use Rattle.hv_dtree.specs.Nodes
 pub use Rattle.hv_dtgram.specs.Source
 pub use Rattle.hv_dtgram.specs.Lexed
 pub use Rattle.hv_dtgram.specs.Contents
-pub mod Printed
+pub use Rattle.hv_dtprint.specs.Printed
 pub mod Bytes
 pub mod Rules
 pub mod Resolved

@@ -9,7 +9,6 @@ mod members;
 mod names;
 mod phandles;
 mod print;
-mod print_line;
 mod read;
 mod references;
 mod refusal;

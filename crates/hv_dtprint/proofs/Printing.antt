@@ -7,7 +7,7 @@ use Rattle.hv_dtree.specs.Nodes.{name_of, props_of, children_of}
 use Rattle.hv_dtree.specs.declared.node.Node.{Node}
 use Rattle.hv_dtree.specs.declared.node.Node.TheFolds.{fold-Node, fold_out-Node}
 use Rattle.hv_dtree.proofs.Counts.{node_count, count_all, count_out}
-use Rattle.hv_dts.specs.Printed.{head_text, foot_text, node_layer, node_text, tree_text}
+use Rattle.hv_dtprint.specs.Printed.{head_text, foot_text, node_layer, node_text, tree_text}
 
 -- nodes at a depth
 abbrev pub nodes_text : ℕ → List Node → List ℕ

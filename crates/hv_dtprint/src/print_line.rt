@@ -1,6 +1,7 @@
 //! Lines of printed source.
-ghost use Rattle.std.specs.Prelude.{◌≡◌, ◌++◌, ◌<◌, ◌+◌, ◌^◌, replicate, OnOk};
-ghost use Rattle.hv_dts.specs.Printed.{hex_digit, hex_pair, value_text, prop_text, shown_name, head_text, foot_text};
+ghost use Rattle.std.specs.Prelude.{◌≡◌, ◌++◌, ◌<◌, ◌+◌, ◌^◌, replicate, All, OnOk};
+ghost use Rattle.hv_dtprint.specs.Printed.{hex_digit, hex_pair, value_text, prop_text, shown_name, head_text, foot_text};
+ghost use Rattle.hv_dtprint.specs.Values.{HasBytes};
 ghost use Rattle.hv_dtree.specs.Nodes.{name_of, props_of};
 
 use hv_dtree::{Node, Prop};
@@ -30,7 +31,8 @@ fn push_tabs(out: &mut Vec<u8>, depth: usize) -> Result<(), AllocError>
 
 #[tactic(auto, unfolding(crate::specs::Printed::value_text))]
 fn push_value(out: &mut Vec<u8>, value: &[u8]) -> Result<(), AllocError>
-    ensures { OnOk result (out.new.items ≡ out.old.items ++ value_text value.now) }
+    ensures text { OnOk result (out.new.items ≡ out.old.items ++ value_text value.now) }
+    ensures bytes { OnOk result (All (λ byte. byte < 256) value.now) }
 {
     let Some((first, rest)) = value.split_first() else {
         out.extend_from_slice(b";\n")?;
@@ -47,7 +49,8 @@ fn push_value(out: &mut Vec<u8>, value: &[u8]) -> Result<(), AllocError>
 }
 
 fn push_prop(out: &mut Vec<u8>, depth: usize, prop: &Prop) -> Result<(), AllocError>
-    ensures { OnOk result (out.new.items ≡ out.old.items ++ prop_text depth prop.now) }
+    ensures text { OnOk result (out.new.items ≡ out.old.items ++ prop_text depth prop.now) }
+    ensures bytes { OnOk result (All (λ byte. byte < 256) prop.now.value) }
 {
     push_tabs(out, depth)?;
     out.extend_from_slice(prop.name.as_slice())?;
@@ -69,8 +72,11 @@ fn push_name(out: &mut Vec<u8>, name: &[u8]) -> Result<(), AllocError>
 #[tactic(auto, unfolding(crate::specs::Printed::head_text))]
 pub fn push_head(out: &mut Vec<u8>, depth: usize, node: &Node) -> Result<(), AllocError>
     requires { depth + 1 < 2 ^ 64 }
-    ensures { OnOk result (out.new.items
+    ensures text { OnOk result (out.new.items
         ≡ out.old.items ++ head_text depth (name_of node.now) (props_of node.now)) }
+
+    // The values of the node were bytes.
+    ensures bytes { OnOk result (HasBytes node.now) }
 {
     push_tabs(out, depth)?;
     push_name(out, node.name.as_slice())?;

@@ -1,0 +1,10 @@
+pub mod Printing
+pub mod Kept
+pub mod Spelled
+pub mod Tests
+pub mod Passing
+pub mod Words
+pub mod Pairs
+pub mod Marks
+pub mod Lines
+pub mod Nested

@@ -1,0 +1,9 @@
+//! Trees printed as device tree source.
+#![tactic(auto)]
+
+mod print;
+mod print_line;
+#[cfg(test)]
+mod tests;
+
+pub use print::print_root;

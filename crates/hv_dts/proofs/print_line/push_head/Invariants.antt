@@ -1,7 +1,0 @@
-use Rattle.std.proofs.Common.{◌≡◌, ◌++◌, ◌+◌, take}
-use Rattle.std.specs.List.{flat_map}
-use Rattle.hv_dts.specs.Printed.{prop_text}
-use Rattle.hv_dts.proofs.print_line.push_head.Given as goal
-
-abbrev pub invariant-loop-prop : goal.invariant-loop-prop
-invariant-loop-prop l = l.out.items ≡ l.initial.out.items ++ flat_map (prop_text (l.depth + 1)) (take l.prop-index l.prop-items)
