@@ -1,11 +1,13 @@
 -- What is due is what a reply shows.
-use Rattle.std.proofs.Common.{◌≡◌, Ok, Err, Result, ap, sym, ◌∙◌}
-use Rattle.hv_files.specs.FileMap.{FileMap}
+use Rattle.std.proofs.Common.{◌≡◌, ℕ, List, Ok, Err, Result, ap, sym, ◌∙◌}
+use Rattle.hv_asm.specs.Assembly.{IsAssembled}
+use Rattle.hv_asm.proofs.Images.{image_is}
+use Rattle.hv_files.specs.FileMap.{FileMap, with_file}
 use Rattle.hv_files.specs.Outcome.{IsDueOrMemory}
 use Rattle.hv_files.specs.declared.refusal.FileRefusal.{FileRefusal}
 use Rattle.hv_files.specs.declared.refusal.FileRefusal.TheVariants as file
 use Rattle.hv_event.specs.declared.reply.Refusal.{Refusal}
-use Rattle.hv_model.specs.Files.{answered, done, changed, refusal_of}
+use Rattle.hv_model.specs.Files.{answered, done, changed, refusal_of, image_written}
 use Rattle.hv_fpart.specs.Part.{IsShownAs}
 
 -- a refusal that is shown is the one that is due
@@ -33,3 +35,11 @@ done-shown due r why is shown = ap Err (shown-is r why shown) ∙ ap done (sym (
 
 pub changed-shown : (m n : FileMap) (due : Result FileMap FileRefusal) (r : FileRefusal) (why : Refusal) → IsDueOrMemory due r → IsShownAs r why → n ≡ m → n ≡ changed m due
 changed-shown m n due r why is shown same = same ∙ ap (changed m) (sym (due-shown due r why is shown))
+
+-- a text's image is written
+pub image-written : (m n : FileMap) (found : Result (List ℕ) FileRefusal) (text image : List ℕ) (path : List (List ℕ)) → found ≡ Ok text → IsAssembled text image
+    → n ≡ changed m (with_file m path image) → n ≡ image_written m found path
+image-written m n found text image path is assembled written =
+    written
+    ∙ ap (λ (bytes : List ℕ). changed m (with_file m path bytes)) (image_is text image assembled)
+    ∙ ap (λ (f : Result (List ℕ) FileRefusal). image_written m f path) (sym is)

@@ -7,7 +7,7 @@ use Rattle.hv_event.specs.declared.reply.Refusal.TheVariants as refusal
 use Rattle.hv_event.specs.declared.step.Step.{Step}
 use Rattle.hv_event.specs.declared.step.Step.TheVariants as step
 
--- the step lists or reads, or it makes, removes or writes at a path of at least one name
+-- the step lists or reads, or it makes, removes, writes or assembles at a path of at least one name
 abbrev pub IsFilesStep : Step → Type 0
 IsFilesStep (step.Ls s) = Unit {0}
 IsFilesStep (step.Cat s) = Unit {0}
@@ -15,6 +15,7 @@ IsFilesStep (step.Dts s) = Unit {0}
 IsFilesStep (step.Mkdir s) = 0 < length s.path
 IsFilesStep (step.Rm s) = 0 < length s.path
 IsFilesStep (step.Write s) = 0 < length s.path
+IsFilesStep (step.Asm s) = 0 < length s.target
 IsFilesStep _ = ⊥
 
 -- a step's reply shows the refusal of the files by its name, and never that memory ran out

@@ -3,10 +3,16 @@
 
 ghost use Rattle.std.specs.Prelude.{◌≡◌, ◌<◌, length, IfOk, OnOk, OnErr, Ok, map};
 ghost use Rattle.hv_model.specs.Entry.{nothing};
-ghost use Rattle.hv_model.specs.Files.{FilesAgree, AnswersSource, files_after, answered, done, changed};
+ghost use Rattle.hv_model.specs.Files.{FilesAgree, AnswersSource, AnswersText, AnswersAssembly, image_written, files_after, answered, done, changed};
+ghost use Rattle.hv_event.specs.declared.step.Step.TheVariants as step;
+ghost use Rattle.hv_event.specs.declared.reply.Reply.TheVariants as reply;
 ghost use Rattle.hv_files.specs.FileMap.{read_file, list_folder, made_folder, with_file, without};
 ghost use Rattle.hv_fpart.specs.Part.{IsFilesStep, IsShownAs};
 
+#[cfg(test)]
+mod tests;
+
+use hv_asm::{AsmRefusal, assemble};
 use hv_dts::{DtsRefusal, read_dts};
 use hv_event::{Refusal, Reply, Step};
 use hv_files::{FileRefusal, FileTree};
@@ -122,12 +128,41 @@ fn written(
     }
 }
 
+/// Writes the image of a file's text, and counts its words.
+fn assembled(
+    alloc: Global,
+    files: &mut FileTree,
+    source: &Path,
+    target: &Path,
+) -> Result<Result<u64, Refusal>, AllocError>
+    requires { 0 < length target.now }
+    ensures answer { IfOk result (AnswersAssembly files.old (read_file files.old source.now) target.now) }
+    ensures after { IfOk result (λ answer.
+        files.new ≡ files_after files.old (step.Asm (record { source = source.now; target = target.now })) (reply.Asm answer)) }
+    ensures err { OnErr result (files.new ≡ files.old) }
+{
+    let image = match files.get(source) {
+        Ok(text) => assemble(alloc, text),
+        Err(refusal) => return Ok(Err(shown(refusal)?)),
+    };
+    let image = match image {
+        Ok(image) => image,
+        Err(AsmRefusal::BadAsm(number)) => return Ok(Err(Refusal::BadAsm(number as u64))),
+        Err(AsmRefusal::Memory(error)) => return Err(error),
+    };
+    let count = image.as_slice().len() / 4;
+    match written(files, target, image)? {
+        Ok(()) => Ok(Ok(count as u64)),
+        Err(why) => Ok(Err(why)),
+    }
+}
+
 /// Makes the change of a step on the files, and gives the reply that they give to it. At `Err`
 /// the files are as before.
 pub fn files_part(alloc: Global, files: &mut FileTree, step: &Step) -> Result<Reply, AllocError>
     requires { IsFilesStep step.now }
     ensures reply { IfOk result (λ reply. FilesAgree files.old step.now reply nothing) }
-    ensures after { OnOk result (files.new ≡ files_after files.old step.now nothing) }
+    ensures after { IfOk result (λ reply. files.new ≡ files_after files.old step.now reply) }
     ensures err { OnErr result (files.new ≡ files.old) }
 {
     match step {
@@ -140,6 +175,7 @@ pub fn files_part(alloc: Global, files: &mut FileTree, step: &Step) -> Result<Re
             let bytes = write.bytes.clone()?;
             Ok(Reply::Write(written(files, &write.path, bytes)?))
         }
-        Step::Bad(_) | Step::Rest(_) | Step::Run(_) | Step::Asm(_) => unreachable!(),
+        Step::Asm(asm) => Ok(Reply::Asm(assembled(alloc, files, &asm.source, &asm.target)?)),
+        Step::Bad(_) | Step::Rest(_) | Step::Run(_) => unreachable!(),
     }
 }

@@ -1,5 +1,5 @@
 -- The component of the files: what it asks of a step, and what a step leaves.
-use Rattle.std.specs.Prelude.{◌≡◌, ◌⊎◌, ℕ, Result, Ok, Err, Option, None, Some, List, length}
+use Rattle.std.specs.Prelude.{◌≡◌, ◌⊎◌, ℕ, ◌/◌, Result, Ok, Err, Option, None, Some, List, length}
 use Rattle.std.specs.Prelude.{map as map_list}
 use Rattle.hv_text.specs.Lines.{script_lines}
 pub use Rattle.hv_files.specs.FileMap.{FileMap, read_file, list_folder, made_folder, with_file, without}
@@ -7,6 +7,8 @@ use Rattle.hv_files.specs.FileMap.{load_files as load_pairs}
 use Rattle.hv_files.specs.declared.refusal.FileRefusal.{FileRefusal}
 use Rattle.hv_files.specs.declared.refusal.FileRefusal.TheVariants as file
 use Rattle.hv_bundle.specs.declared.file.File.{File}
+use Rattle.hv_asm.specs.Assembly.{IsAssembled, HasBadLine}
+use Rattle.hv_asm.specs.Image.{image_of}
 use Rattle.hv_dtree.specs.declared.node.Node.{Node}
 use Rattle.hv_dts.specs.Reading.{IsSourceOf, IsRefusedAt}
 use Rattle.hv_event.specs.declared.step.Step.{Step}
@@ -61,6 +63,27 @@ AnswersSource (Ok bytes) (Err (refusal.BadTree offset)) = IsRefusedAt bytes offs
 AnswersSource (Ok bytes) (Err why) = ⊥
 AnswersSource (Err why) r = r ≡ Err (refusal_of why)
 
+-- What is written where a text assembles to an image is answered by the number of its words, of four bytes each.
+abbrev pub words_written : List ℕ → Result (Unit {0}) Refusal → Result ℕ Refusal
+words_written image (Ok done) = Ok (length image / 4)
+words_written image (Err why) = Err why
+
+-- A text with a bad line is answered by the line's number; the image of another is written to the path.
+abbrev pub AnswersText : FileMap → List ℕ → List (List ℕ) → Result ℕ Refusal → Type 0
+AnswersText m text path (Err (refusal.BadAsm number)) = HasBadLine text number
+AnswersText m text path answer =
+    (image : List ℕ) × IsAssembled text image × (answer ≡ words_written image (done (with_file m path image)))
+
+-- A file is assembled to a path; where there is no file, the reply says why.
+abbrev pub AnswersAssembly : FileMap → Result (List ℕ) FileRefusal → List (List ℕ) → Result ℕ Refusal → Type 0
+AnswersAssembly m (Ok text) path answer = AnswersText m text path answer
+AnswersAssembly m (Err why) path answer = answer ≡ Err (refusal_of why)
+
+-- The files with the image of a file's text at a path.
+abbrev pub image_written : FileMap → Result (List ℕ) FileRefusal → List (List ℕ) → FileMap
+image_written m (Ok text) path = changed m (with_file m path (image_of text))
+image_written m (Err why) path = m
+
 -- The files agree to a step where the reply is the one that they give.
 abbrev pub FilesAgree : FileMap → Step → Reply → Carry → Type 0
 FilesAgree m (step.Ls s) r c = r ≡ reply.Ls (answered (list_folder m s.path))
@@ -71,11 +94,14 @@ FilesAgree m (step.Run s) (reply.Run r) c = FindsScript (read_file m s.path) r c
 FilesAgree m (step.Mkdir s) r c = r ≡ reply.Mkdir (done (made_folder m s.path))
 FilesAgree m (step.Rm s) r c = r ≡ reply.Rm (done (without m s.path))
 FilesAgree m (step.Write s) r c = r ≡ reply.Write (done (with_file m s.path s.bytes))
+FilesAgree m (step.Asm s) r c =
+    (answer : Result ℕ Refusal) × (r ≡ reply.Asm answer) × AnswersAssembly m (read_file m s.source) s.target answer
 FilesAgree m _ r c = ⊥
 
 -- A step leaves the files changed where it makes, removes or writes something, and is not refused.
-abbrev pub files_after : FileMap → Step → Carry → FileMap
-files_after m (step.Mkdir s) c = changed m (made_folder m s.path)
-files_after m (step.Rm s) c = changed m (without m s.path)
-files_after m (step.Write s) c = changed m (with_file m s.path s.bytes)
-files_after m _ c = m
+abbrev pub files_after : FileMap → Step → Reply → FileMap
+files_after m (step.Mkdir s) r = changed m (made_folder m s.path)
+files_after m (step.Rm s) r = changed m (without m s.path)
+files_after m (step.Write s) r = changed m (with_file m s.path s.bytes)
+files_after m (step.Asm s) (reply.Asm (Ok count)) = image_written m (read_file m s.source) s.target
+files_after m _ r = m

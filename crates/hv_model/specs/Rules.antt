@@ -43,7 +43,7 @@ IsAllowedAt (Actor (Terminal t)) s e = TerminalAgrees s e
 
 -- Each cell changes by the rule of its kind.
 abbrev pub apply_at : (x : Cell) → Value x → Entry → Value x
-apply_at (Component component.Files) m e = files_after m e.event.step e.carry
+apply_at (Component component.Files) m e = files_after m e.event.step e.event.reply
 apply_at (Actor (Hart h)) s e = s
 apply_at (Actor (Terminal t)) s e = terminal_after s e.event
 

@@ -80,6 +80,7 @@ step_of (command.VfsDts path) = step.Dts (record { path = path })
 step_of (command.VfsMkdir path) = step.Mkdir (record { path = path })
 step_of (command.VfsRm path) = step.Rm (record { path = path })
 step_of (command.VfsWrite path text) = step.Write (record { path = path; bytes = text })
+step_of (command.VfsAsm source target) = step.Asm (record { source = source; target = target })
 step_of (command.VfsRun path) = step.Run (record { path = path })
 step_of (command.TermRest count) = step.Rest (record {})
 

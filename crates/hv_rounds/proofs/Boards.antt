@@ -144,7 +144,7 @@ module _ (O : Origin) (s : State (machine O)) (b b' : Board) (t : ℕ) (e : Entr
             (ap (λ k. k.value) still ∙ holds.files ∙ ap (λ (f : FileCell). f.tree) (sym h.same), ap (λ k. k.stamp) still ∙ holds.files_stamp ∙ ap (λ (f : FileCell). f.stamp) (sym h.same))
         | takes touched one h ↦
             let changed = next-touched m s e F (touch-files O e ∙ touched) in
-            (ap (λ k. k.value) changed ∙ ap (λ v. files_after v e.event.step e.carry) holds.files ∙ sym h.after, ap (λ k. k.stamp) changed ∙ sym h.stamp)
+            (ap (λ k. k.value) changed ∙ ap (λ v. files_after v e.event.step e.event.reply) holds.files ∙ sym h.after, ap (λ k. k.stamp) changed ∙ sym h.stamp)
       ]
 
   own-touched : touches m (Actor (Terminal t)) e ≡ true

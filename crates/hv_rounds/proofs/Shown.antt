@@ -48,7 +48,7 @@ files-showable m (step.Run s) (reply.Asm r) c h = tt
 files-showable m (step.Mkdir s) r c h = shown-as r _ h tt
 files-showable m (step.Rm s) r c h = shown-as r _ h tt
 files-showable m (step.Write s) r c h = shown-as r _ h tt
-files-showable m (step.Asm s) r c h = absurd h
+files-showable m (step.Asm s) r c h = shown-as r (reply.Asm h.0) h.1 tt
 
 -- a line that is bad has no other step
 bad-showable : (b : Begun) (lines : ℕ) (said : Result Command WordsRefusal) (r : Reply) (c : Carry) (bad : List ℕ)
@@ -59,6 +59,7 @@ bad-showable b lines (Ok (command.VfsDts path)) r c bad h = absurd (cc h.0)
 bad-showable b lines (Ok (command.VfsMkdir path)) r c bad h = absurd (cc h.0)
 bad-showable b lines (Ok (command.VfsRm path)) r c bad h = absurd (cc h.0)
 bad-showable b lines (Ok (command.VfsWrite path text)) r c bad h = absurd (cc h.0)
+bad-showable b lines (Ok (command.VfsAsm source target)) r c bad h = absurd (cc h.0)
 bad-showable b lines (Ok (command.VfsRun path)) r c bad h = absurd (cc h.0)
 bad-showable b lines (Ok (command.TermRest count)) r c bad h = absurd (cc h.0)
 bad-showable b lines (Err line.NoCommand) r c bad h = shown-as r _ h.1 tt

@@ -90,7 +90,7 @@ files-replies b lines (step.Run s) r c kind = absurd kind
 files-replies b lines (step.Mkdir s) r c kind = tt
 files-replies b lines (step.Rm s) r c kind = tt
 files-replies b lines (step.Write s) r c kind = tt
-files-replies b lines (step.Asm s) r c kind = absurd kind
+files-replies b lines (step.Asm s) r c kind = tt
 
 pub files-hand-nothing : (s : Step) (c : Carry) → IsFilesStep s → handed_over s c ≡ nothing
 files-hand-nothing (step.Bad s) c kind = refl

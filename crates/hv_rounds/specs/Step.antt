@@ -25,7 +25,7 @@ use Rattle.hv_rounds.specs.Cells.{value_of}
 -- the files agree to the step, change by it and take its stamp, which is one more than theirs and the terminal's
 pub record TouchesFiles (old new : FileCell) (own : ℕ) (e : Entry) : Type 0 where
   pub agrees : FilesAgree old.tree e.event.step e.event.reply e.carry
-  pub after : new.tree ≡ files_after old.tree e.event.step e.carry
+  pub after : new.tree ≡ files_after old.tree e.event.step e.event.reply
   pub stamp : new.stamp ≡ e.event.stamp
   pub next : e.event.stamp ≡ max own old.stamp + 1
 

@@ -12,7 +12,7 @@ use crate::files::FileCell;
 use crate::script::{RunAnswer, answer_run};
 use crate::stop::Stop;
 use crate::terminal::{Terminal, next_stamp};
-use hv_event::{Bad, Cat, Dts, Ls, Mkdir, Refusal, Reply, Rest, Rm, Run, Step, Write};
+use hv_event::{Asm, Bad, Cat, Dts, Ls, Mkdir, Refusal, Reply, Rest, Rm, Run, Step, Write};
 use hv_fpart::{files_part, read_part};
 use hv_model::Entry;
 use hv_text::{Bytes, Path};
@@ -142,6 +142,15 @@ fn step_command(
                 terminal,
                 line,
                 Step::Write(Write { path, bytes }),
+            )
+        }
+        Command::VfsAsm(source, target) => {
+            step_files(
+                alloc,
+                files,
+                terminal,
+                line,
+                Step::Asm(Asm { source, target }),
             )
         }
         Command::VfsRun(path) => step_run(alloc, files, terminal, line, path),
