@@ -1,24 +1,19 @@
 -- What was printed had bytes for values.
 use Rattle.std.proofs.Common.{◌≡◌, List, [], ◌∷◌, ◌++◌, sym, ap, subst, ◌∙◌, Bor}
-use Rattle.std.specs.Prelude.{All}
 use Rattle.std.specs.List.{AllByRecursion, flat_map}
-use Rattle.std.proofs.lemmas.List.Elements.{All-nil, All-cons}
 use Rattle.hv_dtree.specs.Nodes.{children_of, nodes_of}
 use Rattle.hv_dtree.specs.declared.node.Node.{Node}
 use Rattle.hv_dtree.proofs.Nodes.{nodes_out}
 use Rattle.hv_dtprint.specs.Values.{HasBytes}
 
+-- each of two lists that are joined
 pub each_join : {X : Type 0} (P : X → Type 0) (xs ys : List X) → AllByRecursion P xs → AllByRecursion P ys → AllByRecursion P (xs ++ ys)
 each_join P [] ys one two = two
 each_join P (x ∷ xs) ys one two = (one.0, each_join P xs ys one.1 two)
 
-each_parts : {X : Type 0} (P : X → Type 0) (xs ys : List X) → AllByRecursion P (xs ++ ys) → AllByRecursion P xs × AllByRecursion P ys
+pub each_parts : {X : Type 0} (P : X → Type 0) (xs ys : List X) → AllByRecursion P (xs ++ ys) → AllByRecursion P xs × AllByRecursion P ys
 each_parts P [] ys all = (tt, all)
 each_parts P (x ∷ xs) ys all = let below = each_parts P xs ys all.1 in ((all.0, below.0), below.1)
-
-all_from : {X : Type 0} (P : X → Type 0) (xs : List X) → AllByRecursion P xs → All P xs
-all_from P [] all = All-nil P
-all_from P (x ∷ xs) all = All-cons P x xs all.0 (all_from P xs all.1)
 
 -- the values of nodes with all below them are bytes
 abbrev pub HaveBytes : Bor (List Node) → Type 0
@@ -48,6 +43,3 @@ kept_head root before stack after nodes rest below node so was first inner then 
     let hand : HaveBytes nodes = subst (λ (ns : List Node). AllByRecursion HasBytes (flat_map nodes_of ns)) (sym first)
     (each_join HasBytes (nodes_of node) (flat_map nodes_of rest.now) (node_kept node below.now inner here parts.1.0) older.1.0) in
     so (subst (AllByRecursion HaveBytes) (sym was) (each_join HaveBytes stack (nodes ∷ []) older.0 (hand, tt)))
-
-pub kept_all : (root : Node) (stack : List (Bor (List Node))) → IsKept stack root → stack ≡ [] → All HasBytes (nodes_of root)
-kept_all root stack so none = all_from HasBytes (nodes_of root) (so (subst (AllByRecursion HaveBytes) (sym none) tt))

@@ -19,6 +19,7 @@ use Rattle.hv_dtgram.specs.declared.contents.Entry.TheVariants as entry
 use Rattle.hv_dtprint.specs.Printed.{prop_text, shown_name, head_text, foot_text, node_text, tree_text}
 use Rattle.hv_dtprint.specs.Values.{HasBytes}
 use Rattle.hv_dtprint.proofs.Spelled.{ArePrinted, no_props, one_prop, IsPrinted, no_trees, one_tree}
+use Rattle.hv_dtprint.proofs.Kept.{each_parts}
 use Rattle.hv_dtprint.proofs.Printing.{nodes_text, node_text_is}
 use Rattle.hv_dtprint.proofs.Tests.{all_head, all_tail}
 use Rattle.hv_dtprint.proofs.Passing.{Stands, Continues, pass_spaces}
@@ -30,10 +31,6 @@ use Rattle.hv_dtprint.proofs.Lines.{pass_name, tabs_are, pass_props}
 pub each : {X : Type 0} (P : X → Type 0) (xs : List X) → All P xs → AllByRecursion P xs
 each P [] all = tt
 each P (x ∷ xs) all = (all_head P x xs all, each P xs (all_tail P x xs all))
-
-pub each_parts : {X : Type 0} (P : X → Type 0) (xs ys : List X) → AllByRecursion P (xs ++ ys) → AllByRecursion P xs × AllByRecursion P ys
-each_parts P [] ys all = (tt, all)
-each_parts P (x ∷ xs) ys all = let below = each_parts P xs ys all.1 in ((all.0, below.0), below.1)
 
 -- a node that can be printed
 pub record IsPrintable (tree : Node) : Type 0 where

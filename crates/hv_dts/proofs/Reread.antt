@@ -19,7 +19,8 @@ use Rattle.hv_dtgram.specs.declared.contents.Entry.TheVariants as entry
 use Rattle.hv_dtprint.specs.Printed.{tree_text}
 use Rattle.hv_dtprint.specs.Values.{HasBytes}
 use Rattle.hv_dtprint.proofs.Spelled.{printed_values, ArePrinted, no_props, one_prop, IsPrinted, no_trees, one_tree}
-use Rattle.hv_dtprint.proofs.Nested.{each, each_parts, IsPrintable, spells}
+use Rattle.hv_dtprint.proofs.Kept.{each_join, each_parts}
+use Rattle.hv_dtprint.proofs.Nested.{each, IsPrintable, spells}
 use Rattle.hv_dtprint.proofs.Tests.{both}
 use Rattle.hv_dts.specs.Bytes.{Links, values_bytes, no_links, is_phandle_name, number_in, phandle_number, cell_lists_references, paths_references}
 use Rattle.hv_dts.specs.Rules.{has_name, place_if, repeated, labels_of, props_repeated, nodes_repeated, twice_named, bad_place, with_number, bad_phandles, node_labels, cell_references, path_references, names_of, unlabelled, unlabelled_references, least}
@@ -365,10 +366,6 @@ nodes_same links _ _ given (one_tree place n props children rest nodes are below
 -- no node has a label
 abbrev IsPlain : Site → Type 0
 IsPlain site = site.labels ≡ []
-
-each_join : {X : Type 0} (P : X → Type 0) (xs ys : List X) → AllByRecursion P xs → AllByRecursion P ys → AllByRecursion P (xs ++ ys)
-each_join P [] ys one two = two
-each_join P (x ∷ xs) ys one two = (one.0, each_join P xs ys one.1 two)
 
 sites_plain : (above : List ℕ) (syntax : NodesSyntax) (nodes : List Node) → IsPrinted syntax nodes → AllByRecursion IsPlain (nodes_sites above syntax)
 sites_plain above _ _ no_trees = tt
