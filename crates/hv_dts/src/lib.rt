@@ -9,10 +9,12 @@ mod members;
 mod names;
 mod phandles;
 mod print;
+mod print_len;
 mod print_line;
 mod read;
 mod references;
 mod refusal;
+mod sibling_names;
 #[cfg(test)]
 mod tests;
 #[cfg(test)]

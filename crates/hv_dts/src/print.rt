@@ -2,6 +2,7 @@
 ghost use Rattle.std.specs.Prelude.{◌≡◌, IfOk};
 ghost use Rattle.hv_dts.specs.Printed.{tree_text};
 
+use crate::print_len::text_len;
 use crate::print_line::{push_foot, push_head};
 use hv_dtree::{Node, Tree};
 use hv_text::Bytes;
@@ -18,7 +19,7 @@ pub fn print_dts(alloc: Global, tree: &Tree) -> Result<Bytes, AllocError>
 pub fn print_root(alloc: Global, root: &Node) -> Result<Bytes, AllocError>
     ensures { IfOk result (λ text. text ≡ tree_text root.now) }
 {
-    let mut out = Vec::new(alloc);
+    let mut out = Vec::with_capacity(alloc, text_len(alloc, root)?)?;
     out.extend_from_slice(b"/dts-v1/;\n\n")?;
     push_head(&mut out, 0, root)?;
     // What is still to be printed of each open node's children, the innermost last.
