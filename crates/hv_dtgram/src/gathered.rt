@@ -73,7 +73,8 @@ impl Gathered {
     fn close_cells(&mut self, alloc: Global) -> Result<(), AllocError>
         ensures { OnOk result (self.new ≡ gather self.old (mark Symbol.CellsClose)) }
     {
-        let cells = mem::replace(&mut self.cells, Items::new(alloc));
+        let mut cells = mem::replace(&mut self.cells, Items::new(alloc));
+        cells.trim();
         self.in_cells = false;
         self.values.push(Value::Cells(cells))
     }
@@ -177,6 +178,7 @@ impl Gathered {
             mut entries,
         } = self;
         let _root = entries.pop();
+        entries.trim();
         entries
     }
 }

@@ -88,7 +88,7 @@ pub fn string_len(text: &[u8]) -> Option<usize>
 pub fn string_value(alloc: Global, text: &[u8]) -> Result<Vec<u8>, AllocError>
     ensures { IfOk result (λ bytes. bytes.items ≡ string_bytes text.now) }
 {
-    let mut bytes = Vec::new(alloc);
+    let mut bytes = Vec::with_capacity(alloc, text.len())?;
     let mut rest = text;
     while !rest.starts_with(b"\"") {
         let Some((byte, size)) = piece(rest) else {

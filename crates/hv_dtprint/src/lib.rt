@@ -2,6 +2,7 @@
 #![tactic(auto)]
 
 mod print;
+mod print_len;
 mod print_line;
 #[cfg(test)]
 mod tests;

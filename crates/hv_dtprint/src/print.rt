@@ -4,6 +4,7 @@ ghost use Rattle.hv_dtree.specs.Nodes.{nodes_of};
 ghost use Rattle.hv_dtprint.specs.Printed.{tree_text};
 ghost use Rattle.hv_dtprint.specs.Values.{HasBytes};
 
+use crate::print_len::text_len;
 use crate::print_line::{push_foot, push_head};
 use hv_dtree::Node;
 use hv_text::Bytes;
@@ -16,7 +17,7 @@ pub fn print_root(alloc: Global, root: &Node) -> Result<Bytes, AllocError>
     // The values of the tree were bytes.
     ensures bytes { OnOk result (All HasBytes (nodes_of root.now)) }
 {
-    let mut out = Vec::new(alloc);
+    let mut out = Vec::with_capacity(alloc, text_len(alloc, root)?)?;
     out.extend_from_slice(b"/dts-v1/;\n\n")?;
     push_head(&mut out, 0, root)?;
     // What is still to be printed of each open node's children, the innermost last.

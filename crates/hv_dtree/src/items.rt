@@ -1,10 +1,13 @@
 //! Members of a node.
-ghost use Rattle.std.specs.Prelude.{◌≡◌, ◌≢◌, [], ◌∷◌, ◌++◌, ◌↔◌, IsTrue, MatchOption, OnOk};
+ghost use Rattle.std.specs.Prelude.{◌≡◌, ◌≢◌, [], ◌∷◌, ◌++◌, ◌↔◌, IsTrue, MatchOption, OnOk, reverse};
 ghost use Rattle.hv_dtree.specs.Lists.{SwapsFirst};
 
 use std::alloc::{AllocError, Global};
 use std::marker::Model;
 use std::mem;
+
+/// A shorter list takes room for one item more at a time, a longer one doubles its room.
+const FEW: usize = 8;
 
 /// A `Vec` that contracts see as the list of its elements, so that a tree of them is plain data.
 pub struct Items<T> {
@@ -63,11 +66,30 @@ impl<T> Items<T> {
         self.items.is_empty()
     }
 
-    /// The last item, taken out.
+    /// The last item, taken out. The room of a longer list follows its length, with at most a third of it to spare.
     pub fn pop(&mut self) -> Option<T>
         ensures { MatchOption result ((self.old ≡ []) × (self.new ≡ [])) (λ last. self.old ≡ self.new ++ last ∷ []) }
     {
-        self.items.pop()
+        let last = self.items.pop();
+        let len = self.items.len();
+        if len < self.items.capacity() / 4 * 3 {
+            self.items.shrink_to((len + len / 8).max(FEW));
+        }
+        last
+    }
+
+    /// Gives back the room that no item takes.
+    pub fn trim(&mut self)
+        ensures { self.new ≡ self.old }
+    {
+        self.items.shrink_to_fit();
+    }
+
+    /// Turns the order of the items round.
+    pub fn reverse(&mut self)
+        ensures { self.new ≡ reverse self.old }
+    {
+        self.items.as_mut_slice().reverse();
     }
 
     /// Puts an item in the place of the first one, which is given back.
@@ -84,6 +106,9 @@ impl<T: Drop> Items<T> {
     pub fn push(&mut self, item: T) -> Result<(), AllocError>
         ensures { OnOk result (self.new ≡ self.old ++ item ∷ []) }
     {
+        if self.items.len() < FEW {
+            self.items.reserve_exact(1)?;
+        }
         self.items.push(item)?;
         Ok(())
     }

@@ -119,6 +119,9 @@ fn adds_items_at_the_end(rt: HostRuntime) -> Result<(), Fail> {
     items.push(3)?;
     items.push(5)?;
     assert!(rt; items.as_slice() == [3, 5].as_slice());
-    assert!(rt; items.pop() == Some(5));
+    items.reverse();
+    items.trim();
+    assert!(rt; items.as_slice() == [5, 3].as_slice());
+    assert!(rt; items.pop() == Some(3));
     Ok(())
 }

@@ -11,3 +11,4 @@ pub mod GoodNames
 pub mod Rooted
 pub mod Kept
 pub mod Exclusive
+pub mod SiblingSets

@@ -1,7 +1,7 @@
 -- The tree that is built from the entries of a source.
-use Rattle.std.proofs.Common.{◌≡◌, ℕ, ◌+◌, ◌<◌, ◌≤◌, List, [], ◌∷◌, ◌++◌, length, drop, get_or, refl, sym, ap, subst, ◌∙◌, append_assoc, Ok, Err}
-use Rattle.std.specs.Prelude.{Option, map, Result, IfOk}
-use Rattle.std.proofs.lemmas.List.{drop_more, drop_all, append-nil}
+use Rattle.std.proofs.Common.{◌≡◌, ℕ, List, [], ◌∷◌, ◌++◌, refl, sym, ap, subst, ◌∙◌, append_assoc, Ok, Err}
+use Rattle.std.specs.Prelude.{Option, map, reverse, Result, IfOk}
+use Rattle.std.proofs.lemmas.List.{append-nil, reverse-append, reverse-reverse}
 use Rattle.hv_dtree.specs.declared.node.Prop.{Prop}
 use Rattle.hv_dtree.specs.declared.node.Node.{Node}
 use Rattle.hv_dtree.specs.declared.node.Node.TheViews.{roll-Node}
@@ -61,18 +61,21 @@ pub record Continues (links : Links) (building : Building) (left entries : List 
   pub builds : Builds building built
   pub same : built_all links built left ≡ built_all links (nothing_built given) entries
 
-pub continues_more : (links : Links) (old new : Building) (entries : List Entry) (given : List (Option ℕ)) (i : ℕ) (one : Entry) → i < length entries → one ≡ get_or entries i one
-    → ((it : Built) → Builds old it → Builds new (next_built links it one)) → Continues links old (drop i entries) entries given → Continues links new (drop (i + 1) entries) entries given
-continues_more links old new entries given i one lt is step it =
-    let rest = drop (i + 1) entries in
-    let here : drop i entries ≡ one ∷ rest = drop_more entries i one lt ∙ ap (λ (e : Entry). e ∷ rest) (sym is) in
+pub continues_start : (links : Links) (building : Building) (left entries : List Entry) (given : List (Option ℕ)) → left ≡ reverse entries → Builds building (nothing_built given) → Continues links building (reverse left) entries given
+continues_start links building left entries given turned builds =
+    record { built = nothing_built given; builds = builds; same = ap (built_all links (nothing_built given)) (ap reverse turned ∙ reverse-reverse entries) }
+
+pub continues_more : (links : Links) (old new : Building) (left rest entries : List Entry) (given : List (Option ℕ)) (one : Entry) → left ≡ rest ++ one ∷ []
+    → ((it : Built) → Builds old it → Builds new (next_built links it one)) → Continues links old (reverse left) entries given → Continues links new (reverse rest) entries given
+continues_more links old new left rest entries given one is step it =
+    let here : reverse left ≡ one ∷ reverse rest = ap reverse is ∙ reverse-append rest (one ∷ []) in
     record { built = next_built links it.built one; builds = step it.built it.builds; same = ap (built_all links it.built) (sym here) ∙ it.same }
 
-pub continues_all : (links : Links) (building : Building) (entries : List Entry) (given : List (Option ℕ)) (i : ℕ) (source : SourceSyntax) → length entries ≤ i → Continues links building (drop i entries) entries given → entries ≡ entries_of source
+pub continues_all : (links : Links) (building : Building) (left entries : List Entry) (given : List (Option ℕ)) (source : SourceSyntax) → left ≡ [] → Continues links building (reverse left) entries given → entries ≡ entries_of source
     → frame_tree building.hand ≡ root_tree links source given
-continues_all links building entries given i source over it are =
+continues_all links building left entries given source over it are =
     ap frame_tree it.builds.hand
-    ∙ ap (λ (b : Built). frame_tree b.hand) (ap (built_all links it.built) (sym (drop_all i entries over)) ∙ it.same ∙ ap (built_all links (nothing_built given)) are)
+    ∙ ap (λ (b : Built). frame_tree b.hand) (ap (built_all links it.built) (sym (ap reverse over)) ∙ it.same ∙ ap (built_all links (nothing_built given)) are)
     ∙ source_on links source given
 
 pub if_ok : {T E : Type 0} (result : Result T E) (P Q : T → Type 0) → ((t : T) → P t → Q t) → IfOk result P → IfOk result Q

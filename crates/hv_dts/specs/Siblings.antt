@@ -1,11 +1,11 @@
 -- The names of properties and children that stand before an entry in its node.
 use Rattle.std.specs.Prelude.{◌≡◌, ℕ, List, [], ◌∷◌, ◌++◌, Option, None}
-use Rattle.std.specs.BTreeSet.{BTreeSet}
 use Rattle.hv_dts.specs.Rules.{has_name, lesser, least, place_if}
-use Rattle.hv_dts.specs.Sets.{Holds}
+use Rattle.hv_dts.specs.Sets.{HasNames}
 use Rattle.hv_dtgram.specs.declared.contents.Entry.{Entry}
 use Rattle.hv_dtgram.specs.declared.contents.Entry.TheVariants as entry
 use Rattle.hv_dts.specs.declared.members.Members.{Members}
+use Rattle.hv_dts.specs.declared.sibling_names.SiblingNames.{SiblingNames}
 
 -- the least place of a name that stood twice, and the names of properties, of children, and of the children of the nodes around, the innermost first
 pub record Siblings : Type 0 where
@@ -34,15 +34,15 @@ next_siblings it (entry.Open labels name) = record {
 }
 next_siblings it entry.Close = outside it it.around
 
--- the sets, the innermost last, have these names
-abbrev pub AllHold : List (BTreeSet (List ℕ)) → List (List (List ℕ)) → Type 0
+-- these, the innermost last, have these names
+abbrev pub AllHold : List SiblingNames → List (List (List ℕ)) → Type 0
 AllHold sets [] = sets ≡ []
 AllHold sets (names ∷ around) =
-    (below : List (BTreeSet (List ℕ))) × (top : BTreeSet (List ℕ)) × (sets ≡ below ++ top ∷ []) × Holds top names × AllHold below around
+    (below : List SiblingNames) × (top : SiblingNames) × (sets ≡ below ++ top ∷ []) × HasNames top names × AllHold below around
 
 -- the members have these names
 pub record Follows (members : Members) (names : Siblings) : Type 0 where
   pub best : members.best ≡ names.best
-  pub props : Holds members.props names.props
-  pub children : Holds members.children names.children
+  pub props : HasNames members.props names.props
+  pub children : HasNames members.children names.children
   pub around : AllHold members.around.items names.around

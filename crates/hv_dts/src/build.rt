@@ -7,7 +7,7 @@ ghost use Rattle.hv_dts.specs.Maps.{links_in};
 ghost use Rattle.hv_dts.specs.Building.{Built, nothing_built, next_built, frame_tree, Builds};
 
 use crate::values::{LinkMaps, cell_bytes, values_bytes};
-use hv_dtgram::Entry;
+use hv_dtgram::{Entry, Named};
 use hv_dtree::{Items, Node, Prop};
 use hv_text::Bytes;
 use std::alloc::{AllocError, Global};
@@ -47,12 +47,14 @@ fn finished(alloc: Global, frame: Frame) -> Result<Node, AllocError>
     let Frame {
         name,
         mut props,
-        children,
+        mut children,
         given,
     } = frame;
     if let Some(number) = given {
         props.push(phandle_prop(alloc, number)?)?;
     }
+    props.trim();
+    children.trim();
     Ok(Node {
         name,
         props,
@@ -91,20 +93,19 @@ impl<'a> Building<'a> {
         }
     }
 
-    fn take(&mut self, alloc: Global, links: &LinkMaps, entry: &Entry) -> Result<(), AllocError>
-        ensures { (it : Built) → Builds self.old it → OnOk result (Builds self.new (next_built (links_in links.now) it entry.now)) }
+    fn take(&mut self, alloc: Global, links: &LinkMaps, entry: Entry) -> Result<(), AllocError>
+        ensures { (it : Built) → Builds self.old it → OnOk result (Builds self.new (next_built (links_in links.now) it entry)) }
     {
         match entry {
-            Entry::Property(_, name, values) => {
+            Entry::Property(_, named, values) => {
+                let Named { name, place: _ } = named;
                 let value = values_bytes(alloc, values.as_slice(), links)?;
-                self.hand.props.push(Prop {
-                    name: name.name.clone()?,
-                    value,
-                })
+                self.hand.props.push(Prop { name, value })
             }
-            Entry::Open(_, name) => {
+            Entry::Open(_, named) => {
+                let Named { name, place: _ } = named;
                 let inner = Frame {
-                    name: name.name.clone()?,
+                    name,
                     props: Items::new(alloc),
                     children: Items::new(alloc),
                     given: self.first_given(),
@@ -129,13 +130,16 @@ pub fn build(
     alloc: Global,
     links: &LinkMaps,
     given: &[Option<u32>],
-    entries: &[Entry],
+    entries: Items<Entry>,
 ) -> Result<Node, AllocError>
-    ensures { (source : SourceSyntax) → entries.now ≡ entries_of source
+    ensures { (source : SourceSyntax) → entries ≡ entries_of source
         → IfOk result (λ root. root ≡ root_tree (links_in links.now) source given.now) }
 {
     let mut building = Building::new(alloc, given);
-    for entry in entries {
+    // The first entry last, so that the room of those that are built is given back.
+    let mut left = entries;
+    left.reverse();
+    'taking: while let Some(entry) = left.pop() {
         building.take(alloc, links, entry)?;
     }
     let Building {

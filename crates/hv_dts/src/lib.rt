@@ -12,6 +12,7 @@ mod print;
 mod read;
 mod references;
 mod refusal;
+mod sibling_names;
 #[cfg(test)]
 mod tests;
 #[cfg(test)]

@@ -4,21 +4,19 @@ ghost use Rattle.hv_dtgram.specs.Contents.{SourceSyntax, entries_of};
 ghost use Rattle.hv_dts.specs.Rules.{least, props_repeated, nodes_repeated};
 ghost use Rattle.hv_dts.specs.Siblings.{Siblings, next_siblings, Follows, no_siblings};
 
-use crate::names::note_place;
+use crate::sibling_names::SiblingNames;
 use hv_dtgram::Entry;
-use hv_text::Bytes;
 use std::alloc::{AllocError, Global};
-use std::collections::BTreeSet;
 use std::mem;
 
 /// The names around an entry, and the least place of one that stood twice.
 #[derive(Drop)]
 pub struct Members {
     pub best: Option<usize>,
-    pub props: BTreeSet<Bytes>,
-    pub children: BTreeSet<Bytes>,
+    pub props: SiblingNames,
+    pub children: SiblingNames,
     /// The names of the children of the nodes around, the innermost last.
-    pub around: Vec<BTreeSet<Bytes>>,
+    pub around: Vec<SiblingNames>,
 }
 
 impl Members {
@@ -27,8 +25,8 @@ impl Members {
     {
         Members {
             best: None,
-            props: BTreeSet::new(alloc),
-            children: BTreeSet::new(alloc),
+            props: SiblingNames::new(alloc),
+            children: SiblingNames::new(alloc),
             around: Vec::new(alloc),
         }
     }
@@ -38,14 +36,14 @@ impl Members {
     {
         match entry {
             Entry::Property(_, name, _) => {
-                self.best = note_place(&mut self.props, self.best, name)?;
+                self.best = self.props.note_place(self.best, name)?;
                 Ok(())
             }
             Entry::Open(_, name) => {
-                self.best = note_place(&mut self.children, self.best, name)?;
-                let inner = mem::replace(&mut self.children, BTreeSet::new(alloc));
+                self.best = self.children.note_place(self.best, name)?;
+                let inner = mem::replace(&mut self.children, SiblingNames::new(alloc));
                 self.around.push(inner)?;
-                self.props = BTreeSet::new(alloc);
+                self.props = SiblingNames::new(alloc);
                 Ok(())
             }
             Entry::Close => {

@@ -79,12 +79,8 @@ fn read_any(alloc: Global, text: &[u8]) -> Result<Node, DtsRefusal>
     let entries = read_entries(alloc, text)?;
     let asked = judged(alloc, entries.as_slice())?;
     let linking = link(alloc, &asked, entries.as_slice())?;
-    let root = build(
-        alloc,
-        &linking.links,
-        linking.given.as_slice(),
-        entries.as_slice(),
-    )?;
+    drop(asked);
+    let root = build(alloc, &linking.links, linking.given.as_slice(), entries)?;
     Ok(root)
 }
 

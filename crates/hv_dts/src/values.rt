@@ -107,6 +107,7 @@ pub fn values_bytes(alloc: Global, values: &[Value], links: &LinkMaps) -> Result
     for value in values {
         push_part(&mut out, value, links)?;
     }
+    out.shrink_to_fit();
     Ok(Bytes::from_vec(out))
 }
 

@@ -12,20 +12,20 @@ printing-init c =
     let root = c.args.root.now in
     let start : List ℕ = codes "/dts-v1/;" ++ 10 ∷ 10 ∷ [] in
     let head = head_text 0 (name_of root) (props_of root) in
-    let first = c.in_ok-extend_from_slice.ensures.items ∙ ap (λ (t : List ℕ). t ++ start) c.new-out.ensures.items in
+    let first = c.in_ok-extend_from_slice.ensures.items ∙ ap (λ (t : List ℕ). t ++ start) c.in_ok-out.ensures.items in
     let one = c.in_ok-push.ensures.items ∙ ap (λ t. t ++ c.as_slice.result ∷ []) c.new-stack.ensures.items in
     record {
       text = printing_root root c.push_head.new.out.items start c.push.new.self.items c.as_slice.result refl (c.in_ok-push_head.ensures.text ∙ ap (λ (t : List ℕ). t ++ head) first) one c.as_slice.ensures;
       bytes = kept_root root c.push.new.self.items c.as_slice.result one c.as_slice.ensures c.in_ok-push_head.ensures.bytes;
     }
 
-pub printing-smaller-in-Continue-branch-6 : goal.printing-smaller-in-Continue-branch-6
-printing-smaller-in-Continue-branch-6 c =
+pub printing-smaller-in_ok-push-in-Some-split_first-2 : goal.printing-smaller-in_ok-push-in-Some-split_first-2
+printing-smaller-in_ok-push-in-Some-split_first-2 c =
     lighter_head c.printing.stack.items c.pop.new.self.items c.push-in-Some-split_first-2.new.self.items c.in-Some.nodes c.in-Some-split_first.rest c.as_slice-in-Some-split_first.result c.in-Some-split_first.node.now
     c.in-Some.ensures.items c.in-Some-split_first.ensures.cases.0 c.as_slice-in-Some-split_first.ensures (c.in_ok-push-in-Some-split_first-2.ensures.items ∙ ap (λ t. t ++ c.as_slice-in-Some-split_first.result ∷ []) c.in_ok-push-in-Some-split_first.ensures.items)
 
-pub printing-preserved-in-Continue-branch-6 : goal.printing-preserved-in-Continue-branch-6
-printing-preserved-in-Continue-branch-6 c =
+pub printing-preserved-in_ok-push-in-Some-split_first-2 : goal.printing-preserved-in_ok-push-in-Some-split_first-2
+printing-preserved-in_ok-push-in-Some-split_first-2 c =
     let node = c.in-Some-split_first.node.now in
     let last = length c.pop.new.self.items in
     let depth : c.len.result ≡ last + 1 = omega (arith, c.len.ensures, c.in_ok-push-in-Some-split_first.ensures.len, c.pop.new.self.ok.0) in

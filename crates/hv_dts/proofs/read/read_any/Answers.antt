@@ -22,7 +22,7 @@ returns-clause-found c =
     subst (λ (es : List Entry). AreAsked c.in_ok-asked.asked (asked_labels es) (names_of (flat_map path_references es)) (used_numbers es)) c.as_slice.ensures c.in_ok-asked.ensures.asked in
     let linked : AreLinked cells paths used linking entries = subst (AreLinked cells paths used linking) c.as_slice-2.ensures (c.in_ok-linking.ensures cells paths used asked) in
     let root : c.in_ok-root.root ≡ root_tree (links_in linking.links) it.syntax linking.given.items =
-    c.in_ok-root.ensures it.syntax (c.as_slice-4.ensures ∙ it.is) ∙ ap (root_tree (links_in linking.links) it.syntax) c.as_slice-3.ensures.value in
+    c.in_ok-root.ensures it.syntax it.is ∙ ap (root_tree (links_in linking.links) it.syntax) c.as_slice-3.ensures.value in
     record {
       syntax = it.syntax;
       written = it.written;
@@ -42,5 +42,5 @@ returns-clause-rules c =
     subst (λ (es : List Entry). AreAsked c.in_ok-asked.asked (asked_labels es) (names_of (flat_map path_references es)) (used_numbers es)) c.as_slice.ensures c.in_ok-asked.ensures.asked in
     let linked : AreLinked cells paths used linking entries = subst (AreLinked cells paths used linking) c.as_slice-2.ensures (c.in_ok-linking.ensures cells paths used asked) in
     let root : c.in_ok-root.root ≡ root_tree (links_in linking.links) it.syntax linking.given.items =
-    c.in_ok-root.ensures it.syntax (c.as_slice-4.ensures ∙ it.is) ∙ ap (root_tree (links_in linking.links) it.syntax) c.as_slice-3.ensures.value in
+    c.in_ok-root.ensures it.syntax it.is ∙ ap (root_tree (links_in linking.links) it.syntax) c.as_slice-3.ensures.value in
     subst IsRoot (sym root) (keeps_rules it.syntax entries linking it.is it.written.names (c.in_ok-asked.ensures.kept it.syntax (c.as_slice.ensures ∙ it.is)) linked)
