@@ -1,0 +1,3 @@
+addi x5, x0, 3
+
+fly x1
