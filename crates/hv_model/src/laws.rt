@@ -1,5 +1,7 @@
 //! Laws of the definitions, each the contract of a function that does nothing.
-ghost use Rattle.std.specs.Prelude.{[], ◌∷◌, ◌≡◌, false};
+ghost use Rattle.std.specs.Prelude.{[], ◌∷◌, ◌≡◌, ℕ, Bool, List, false};
+ghost use Rattle.hv_event.specs.declared.event.Event.{Event};
+ghost use Rattle.hv_model.specs.Origin.{Origin};
 ghost use Rattle.hv_model.specs.Legal.{Legal, Complete};
 ghost use Rattle.hv_model.specs.Report.{IsReport};
 ghost use Rattle.hv_model.specs.Board.{ClosedBoardIsLegal};
@@ -24,4 +26,10 @@ pub fn closed_board_is_legal()
 /// A history made in rounds is legal.
 pub fn rounds_are_legal()
     ensures { RoundsAreLegal }
+{}
+
+/// A history has one report, since a device tree source stands for one tree.
+pub fn a_history_has_one_report()
+    ensures { (O : Origin) (H : List Event) (threads brief : Bool) (one other : List ℕ)
+        → IsReport O H threads brief one → IsReport O H threads brief other → one ≡ other }
 {}
