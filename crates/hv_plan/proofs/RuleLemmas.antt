@@ -20,7 +20,7 @@ use Rattle.hv_plan.specs.Regions.{region_causes, is_range, is_part, keeps_sort, 
 use Rattle.hv_plan.specs.declared.sort.Sort.{Sort}
 use Rattle.hv_plan.specs.declared.sort.Sort.TheVariants.{Ram, Rom, Device, Real, Alias}
 use Rattle.hv_plan.specs.Guests.{faults_from}
-use Rattle.hv_plan.specs.declared.refusal.Cause.{Cause}
+use Rattle.hv_cause.specs.declared.Cause.{Cause}
 
 -- both parts of an empty list are empty
 pub no_parts : {X : Type 0} (xs ys : List X) → xs ++ ys ≡ [] → (xs ≡ []) × (ys ≡ [])

@@ -9,8 +9,8 @@ use Rattle.hv_region.specs.declared.plan.RegionPlan.{RegionPlan}
 use Rattle.hv_plan.specs.Properties.{has, cell_in, cell_of}
 use Rattle.hv_plan.specs.Vcpus.{when}
 use Rattle.hv_plan.specs.Regions.{is_device, sort_of, source_of, type_of, base_of, size_of, form_by}
-use Rattle.hv_plan.specs.declared.refusal.Cause.{Cause}
-use Rattle.hv_plan.specs.declared.refusal.Cause.TheVariants.{Parent, SourceUsed}
+use Rattle.hv_cause.specs.declared.Cause.{Cause}
+use Rattle.hv_cause.specs.declared.Cause.TheVariants.{Parent, SourceUsed}
 
 -- a device with interrupts, which are ignored on other regions
 abbrev pub interrupts : Node → Bool

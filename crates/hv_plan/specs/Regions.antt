@@ -12,8 +12,8 @@ use Rattle.hv_region.specs.declared.plan.Form.{Form}
 use Rattle.hv_region.specs.declared.plan.Form.TheVariants as form
 use Rattle.hv_plan.specs.Properties.{has, cell_of, number_of, number_or, text_of, says, is_within}
 use Rattle.hv_plan.specs.Vcpus.{when}
-use Rattle.hv_plan.specs.declared.refusal.Cause.{Cause}
-use Rattle.hv_plan.specs.declared.refusal.Cause.TheVariants as cause
+use Rattle.hv_cause.specs.declared.Cause.{Cause}
+use Rattle.hv_cause.specs.declared.Cause.TheVariants as cause
 use Rattle.hv_plan.specs.declared.sort.Sort.{Sort}
 use Rattle.hv_plan.specs.declared.sort.Sort.TheVariants.{Ram, Rom, Device, Real, Alias}
 

@@ -7,8 +7,8 @@ use Rattle.hv_region.specs.declared.plan.Form.{Form}
 use Rattle.hv_region.specs.declared.plan.Form.TheVariants.{Alias}
 use Rattle.hv_region.specs.declared.plan.RegionPlan.{RegionPlan}
 use Rattle.hv_plan.specs.Vcpus.{when}
-use Rattle.hv_plan.specs.declared.refusal.Cause.{Cause}
-use Rattle.hv_plan.specs.declared.refusal.Cause.TheVariants.{Overlap, AliasTarget}
+use Rattle.hv_cause.specs.declared.Cause.{Cause}
+use Rattle.hv_cause.specs.declared.Cause.TheVariants.{Overlap, AliasTarget}
 
 abbrev pub is_same_type : AddressType → AddressType → Bool
 is_same_type Memory Memory = true

@@ -5,8 +5,8 @@ ghost use Rattle.hv_plan.specs.Properties.{first_of};
 ghost use Rattle.hv_plan.specs.Links.{interrupts, parent_phandle, has_phandle, link_of, links_of, leads_from, is_same_link, causes_of_link, clock_row, is_clock, is_row, region_plan};
 
 use crate::properties::{cell, has, number};
-use crate::refusal::Cause;
 use crate::region::{form_of, is_device, source_of, type_of};
+use hv_cause::Cause;
 use hv_dtree::Node;
 use hv_region::RegionPlan;
 use hv_text::{AddressType, Bytes};

@@ -3,7 +3,8 @@ ghost use Rattle.std.specs.Prelude.{◌≡◌, ◌∷◌, ◌++◌, [], codes, I
 ghost use Rattle.hv_text.specs.Path.{path_text};
 ghost use Rattle.hv_plan.specs.Reading.{Tells};
 
-use crate::refusal::{Cause, PlanRefusal};
+use crate::refusal::PlanRefusal;
+use hv_cause::Cause;
 use hv_text::Bytes;
 use std::alloc::{AllocError, Global};
 

@@ -1,31 +1,9 @@
 //! What is wrong with a tree.
 ghost use Rattle.std.specs.Prelude.{◌≡◌};
 
+use hv_cause::Cause;
 use hv_text::{Bytes, LimitName};
 use std::alloc::{AllocError, AllocFailed};
-
-/// Why a node of a guest gives no plan.
-#[derive(Clone, Copy, Debug, PartialEq, Eq)]
-pub enum Cause {
-    /// A child or a property isn't there.
-    Missing,
-    /// There are more children than allowed.
-    TooMany,
-    /// The manifest or the address type is none of its texts.
-    Kind,
-    /// Any other rule of the node is broken.
-    Form,
-    /// The area of a real region isn't there.
-    NoArea,
-    /// A device with interrupts has no other region as its parent.
-    Parent,
-    /// An earlier region has the same parent and source.
-    SourceUsed,
-    /// An earlier region has an address of this one.
-    Overlap,
-    /// No region that is no alias has all addresses that an alias stands for.
-    AliasTarget,
-}
 
 /// Why there is no plan of a guest.
 #[derive(Debug, Drop)]

@@ -6,8 +6,8 @@ ghost use Rattle.hv_plan.specs.Properties.{has, first_of};
 ghost use Rattle.hv_plan.specs.Regions.{sort_of, type_of, is_device, required, source_of, is_named, area_of, area_row, area_len, is_range, is_part, keeps_sort, is_region, has_no_area, region_causes, compatible_of, strings_in, form_by};
 
 use crate::properties::{cell, has, is_within, number, number_or, says, text};
-use crate::refusal::Cause;
 use crate::sort::Sort;
+use hv_cause::Cause;
 use hv_dtree::Node;
 use hv_region::{Form, end_of};
 use hv_text::{AddressType, Bytes, Strings, word_at};

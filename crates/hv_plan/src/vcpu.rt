@@ -4,7 +4,7 @@ ghost use Rattle.hv_plan.specs.Properties.{first_of};
 ghost use Rattle.hv_plan.specs.Vcpus.{vcpu_causes, vcpu_plan};
 
 use crate::properties::{has, number, number_or};
-use crate::refusal::Cause;
+use hv_cause::Cause;
 use hv_dtree::Node;
 use hv_region::VcpuPlan;
 

@@ -4,7 +4,7 @@ ghost use Rattle.std.specs.List.{list_any};
 ghost use Rattle.hv_plan.specs.Properties.{first_of};
 ghost use Rattle.hv_plan.specs.Windows.{meets, holds, is_alias, blocks, has_range, lacks_target, overlap_causes, alias_causes};
 
-use crate::refusal::Cause;
+use hv_cause::Cause;
 use hv_region::{Form, RegionPlan};
 use hv_text::AddressType;
 

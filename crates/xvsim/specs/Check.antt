@@ -8,8 +8,7 @@ use Rattle.hv_text.specs.Path.{path_text}
 use Rattle.hv_bundle.specs.declared.file.File.{File}
 use Rattle.hv_plan.specs.declared.guest.GuestPlan.{GuestPlan}
 use Rattle.hv_plan.specs.declared.host.Host.{Host}
-use Rattle.hv_plan.specs.declared.refusal.Cause.{Cause}
-use Rattle.hv_plan.specs.declared.refusal.Cause.TheVariants as cause
+use Rattle.hv_cause.specs.Cause.{cause_word}
 use Rattle.hv_host.specs.declared.board.Board.{Board}
 use Rattle.hv_host.specs.declared.board.Fault.{Fault}
 use Rattle.hv_model.specs.Report.{line}
@@ -29,22 +28,10 @@ abbrev pub host_line : Host → List ℕ
 host_line host =
     line (codes "host harts " ++ decimal host.harts ++ codes " turns " ++ decimal host.turns ++ codes " areas " ++ decimal (length host.areas.items))
 
--- the name of a cause
-abbrev pub cause_text : Cause → List ℕ
-cause_text cause.Missing = codes "Missing"
-cause_text cause.TooMany = codes "TooMany"
-cause_text cause.Kind = codes "Kind"
-cause_text cause.Form = codes "Form"
-cause_text cause.NoArea = codes "NoArea"
-cause_text cause.Parent = codes "Parent"
-cause_text cause.SourceUsed = codes "SourceUsed"
-cause_text cause.Overlap = codes "Overlap"
-cause_text cause.AliasTarget = codes "AliasTarget"
-
 -- what comes of a guest: how many VCPUs and regions it has, or the path and the cause of its first fault
 abbrev pub plan_text : Result GuestPlan Fault → List ℕ
 plan_text (Ok plan) = codes " ok vcpus " ++ decimal (length plan.vcpus.items) ++ codes " regions " ++ decimal (length plan.regions.items)
-plan_text (Err fault) = codes " bad " ++ fault.path ++ codes " " ++ cause_text fault.cause
+plan_text (Err fault) = codes " bad " ++ fault.path ++ codes " " ++ cause_word fault.cause
 
 -- the line of a guest
 abbrev pub guest_line : List ℕ → Result GuestPlan Fault → List ℕ

@@ -2,12 +2,13 @@
 ghost use Rattle.std.specs.Prelude.{◌≡◌, ◌++◌, ◌+◌, length, drop, OnOk, IfOk, Ok, Err};
 ghost use Rattle.std.specs.List.{flat_map};
 ghost use Rattle.hv_text.specs.Path.{path_text};
-ghost use Rattle.xvsim.specs.Check.{bundle_line, file_line, host_line, cause_text, plan_text, guest_line, guests_text, check_text};
+ghost use Rattle.xvsim.specs.Check.{bundle_line, file_line, host_line, plan_text, guest_line, guests_text, check_text};
 
 use crate::input::Input;
 use hv_bundle::File;
+use hv_cause::push_cause;
 use hv_host::Fault;
-use hv_plan::{Cause, GuestPlan, Host};
+use hv_plan::{GuestPlan, Host};
 use hv_text::{Bytes, push_decimal};
 use std::alloc::{AllocError, Global};
 
@@ -50,22 +51,6 @@ fn push_host(alloc: Global, to: &mut Bytes, host: &Host) -> Result<(), AllocErro
     to.append(b" areas ")?;
     push_decimal(alloc, to, host.areas.len() as u64)?;
     to.append(b"\n")
-}
-
-fn push_cause(to: &mut Bytes, cause: Cause) -> Result<(), AllocError>
-    ensures { OnOk result (to.new ≡ to.old ++ cause_text cause) }
-{
-    match cause {
-        Cause::Missing => to.append(b"Missing"),
-        Cause::TooMany => to.append(b"TooMany"),
-        Cause::Kind => to.append(b"Kind"),
-        Cause::Form => to.append(b"Form"),
-        Cause::NoArea => to.append(b"NoArea"),
-        Cause::Parent => to.append(b"Parent"),
-        Cause::SourceUsed => to.append(b"SourceUsed"),
-        Cause::Overlap => to.append(b"Overlap"),
-        Cause::AliasTarget => to.append(b"AliasTarget"),
-    }
 }
 
 fn push_good(alloc: Global, to: &mut Bytes, plan: &GuestPlan) -> Result<(), AllocError>
