@@ -1,0 +1,2 @@
+pub mod Look
+pub use Rattle.hv_data.specs.Data
