@@ -1,8 +1,2 @@
-pub mod Parts
-pub mod Foreign
-pub mod Pairs
-pub mod Listed
-pub mod Numerals
-pub mod Steps
-pub mod Replies
+pub mod Shapes
 pub mod Events

@@ -1,7 +1,6 @@
 pub mod Line
-pub mod StepName
-pub mod Written
 pub mod Words
+pub mod Written
 pub mod Reading
-pub use Rattle.hv_text.specs.Path
-pub use Rattle.hv_text.specs.Number
+pub use Rattle.hv_step.specs.Words as Steps
+pub use Rattle.hv_answer.specs.Reply

@@ -1,6 +1,6 @@
 //! An event, its actor, and what it touches.
-use crate::reply::Reply;
-use crate::step::Step;
+use hv_answer::Reply;
+use hv_step::Step;
 
 /// Who makes a step.
 #[derive(Clone, Copy, Debug, PartialEq, Eq)]

@@ -4,23 +4,25 @@
 //! the event's logical time; a reply is what came of the step.
 #![tactic(auto)]
 
-mod answer;
+mod actor;
 mod event;
-mod name;
 mod print;
 mod read;
 mod refusal;
-mod reply;
-mod split;
-mod step;
-mod word;
 
 pub use event::{ActorId, CellId, Event};
-pub use print::{print_event, print_refusal};
+pub use hv_answer::{Accessed, Fetched, Moved, Outcome, Pinned, Pins, Reply, Sampled};
+pub use hv_data::{AccessKind, Direction, Generation, SignalChanges, State, StateName};
+pub use hv_refusal::{Refusal, print_refusal};
+pub use hv_step::{
+    Access, Add, Asm, Bad, Balance, ByGuest, Cat, Devreset, Dispatch, Drop, Dts, Fault, Feed,
+    Fetch, Guests, Halt, Idle, Kick, Leave, Load, Look, Ls, Mem, Mkdir, Name, Output, Pause, Pin,
+    Preempt, Regions, Reset, Rest, Resume, Rm, Run, Sample, Stage, Step, Take, Tick, Vadd, Vdrop,
+    Write,
+};
+pub use print::print_event;
 pub use read::{lines_are_unambiguous, read_event};
 pub use refusal::LineRefusal;
-pub use reply::{Refusal, Reply};
-pub use step::{Asm, Bad, Cat, Dts, Ls, Mkdir, Rest, Rm, Run, Step, Write};
 
 #[cfg(test)]
 mod tests;

@@ -6,7 +6,7 @@ use Rattle.hv_files.specs.FileMap.{FileMap, with_file}
 use Rattle.hv_files.specs.Outcome.{IsDueOrMemory}
 use Rattle.hv_files.specs.declared.refusal.FileRefusal.{FileRefusal}
 use Rattle.hv_files.specs.declared.refusal.FileRefusal.TheVariants as file
-use Rattle.hv_event.specs.declared.reply.Refusal.{Refusal}
+use Rattle.hv_refusal.specs.declared.refusal.Refusal.{Refusal}
 use Rattle.hv_model.specs.Files.{answered, done, changed, refusal_of, image_written}
 use Rattle.hv_fpart.specs.Part.{IsShownAs}
 

@@ -2,10 +2,10 @@
 use Rattle.std.specs.Prelude.{◌≡◌, ◌<◌, length}
 use Rattle.hv_files.specs.declared.refusal.FileRefusal.{FileRefusal}
 use Rattle.hv_files.specs.declared.refusal.FileRefusal.TheVariants as file
-use Rattle.hv_event.specs.declared.reply.Refusal.{Refusal}
-use Rattle.hv_event.specs.declared.reply.Refusal.TheVariants as refusal
-use Rattle.hv_event.specs.declared.step.Step.{Step}
-use Rattle.hv_event.specs.declared.step.Step.TheVariants as step
+use Rattle.hv_refusal.specs.declared.refusal.Refusal.{Refusal}
+use Rattle.hv_refusal.specs.declared.refusal.Refusal.TheVariants as refusal
+use Rattle.hv_step.specs.declared.step.Step.{Step}
+use Rattle.hv_step.specs.declared.step.Step.TheVariants as step
 
 -- the step lists or reads, or it makes, removes, writes or assembles at a path of at least one name
 abbrev pub IsFilesStep : Step → Type 0

@@ -4,8 +4,8 @@
 ghost use Rattle.std.specs.Prelude.{◌≡◌, ◌<◌, length, IfOk, OnOk, OnErr, Ok, map};
 ghost use Rattle.hv_model.specs.Entry.{nothing};
 ghost use Rattle.hv_model.specs.Files.{FilesAgree, AnswersSource, AnswersText, AnswersAssembly, image_written, files_after, answered, done, changed};
-ghost use Rattle.hv_event.specs.declared.step.Step.TheVariants as step;
-ghost use Rattle.hv_event.specs.declared.reply.Reply.TheVariants as reply;
+ghost use Rattle.hv_step.specs.declared.step.Step.TheVariants as step;
+ghost use Rattle.hv_answer.specs.declared.reply.Reply.TheVariants as reply;
 ghost use Rattle.hv_files.specs.FileMap.{read_file, list_folder, made_folder, with_file, without};
 ghost use Rattle.hv_fpart.specs.Part.{IsFilesStep, IsShownAs};
 
@@ -176,6 +176,39 @@ pub fn files_part(alloc: Global, files: &mut FileTree, step: &Step) -> Result<Re
             Ok(Reply::Write(written(files, &write.path, bytes)?))
         }
         Step::Asm(asm) => Ok(Reply::Asm(assembled(alloc, files, &asm.source, &asm.target)?)),
-        Step::Bad(_) | Step::Rest(_) | Step::Run(_) => unreachable!(),
+        Step::Bad(_)
+        | Step::Rest(_)
+        | Step::Run(_)
+        | Step::Guests(_)
+        | Step::Name(_)
+        | Step::Stage(_)
+        | Step::Add(_)
+        | Step::Drop(_)
+        | Step::Regions(_)
+        | Step::Load(_)
+        | Step::Mem(_)
+        | Step::Devreset(_)
+        | Step::Feed(_)
+        | Step::Output(_)
+        | Step::Vadd(_)
+        | Step::Vdrop(_)
+        | Step::Kick(_)
+        | Step::Resume(_)
+        | Step::Pause(_)
+        | Step::Halt(_)
+        | Step::Reset(_)
+        | Step::Look(_)
+        | Step::Tick(_)
+        | Step::Idle(_)
+        | Step::Dispatch(_)
+        | Step::Preempt(_)
+        | Step::Leave(_)
+        | Step::Take(_)
+        | Step::Fetch(_)
+        | Step::Access(_)
+        | Step::Fault(_)
+        | Step::Balance(_)
+        | Step::Sample(_)
+        | Step::Pin(_) => unreachable!(),
     }
 }

@@ -2,8 +2,8 @@
 use Rattle.std.specs.Prelude.{None}
 pub use Rattle.hv_model.specs.declared.entry.Carry.{Carry}
 pub use Rattle.hv_model.specs.declared.entry.Entry.{Entry}
-use Rattle.hv_event.specs.declared.step.Step.{Step}
-use Rattle.hv_event.specs.declared.step.Step.TheVariants as step
+use Rattle.hv_step.specs.declared.step.Step.{Step}
+use Rattle.hv_step.specs.declared.step.Step.TheVariants as step
 
 -- Nothing is handed over.
 abbrev pub nothing : Carry

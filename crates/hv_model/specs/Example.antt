@@ -2,8 +2,8 @@
 use Rattle.std.specs.Prelude.{ℕ, Ok, List, [], ◌∷◌, ◌++◌, codes}
 use Rattle.hv_event.specs.declared.event.ActorId.TheVariants.{Terminal}
 use Rattle.hv_event.specs.declared.event.Event.{Event}
-use Rattle.hv_event.specs.declared.step.Step.TheVariants as step
-use Rattle.hv_event.specs.declared.reply.Reply.TheVariants as reply
+use Rattle.hv_step.specs.declared.step.Step.TheVariants as step
+use Rattle.hv_answer.specs.declared.reply.Reply.TheVariants as reply
 use Rattle.hv_model.specs.declared.opening.Opening.{Opening}
 use Rattle.hv_model.specs.Origin.{Origin, origin_of}
 

@@ -5,10 +5,11 @@ use Rattle.std.specs.List.{flat_map}
 use Rattle.hv_event.specs.declared.event.ActorId.{ActorId}
 use Rattle.hv_event.specs.declared.event.ActorId.TheVariants.{Hart, Terminal}
 use Rattle.hv_event.specs.declared.event.Event.{Event}
-use Rattle.hv_event.specs.declared.reply.Reply.{Reply}
-use Rattle.hv_event.specs.declared.reply.Reply.TheVariants as reply
-use Rattle.hv_event.specs.declared.reply.Refusal.{Refusal}
-use Rattle.hv_event.specs.Line.{event_text, refusal_text}
+use Rattle.hv_answer.specs.declared.reply.Reply.{Reply}
+use Rattle.hv_answer.specs.declared.reply.Reply.TheVariants as reply
+use Rattle.hv_refusal.specs.declared.refusal.Refusal.{Refusal}
+use Rattle.hv_event.specs.Line.{event_text}
+use Rattle.hv_refusal.specs.Refusal.{refusal_text}
 use Rattle.hv_dtree.specs.declared.node.Node.{Node}
 use Rattle.hv_dts.specs.Printed.{tree_text}
 use Rattle.hv_dts.specs.Reading.{IsSourceOf}
@@ -63,7 +64,7 @@ abbrev pub ShowsSource : Result (List ℕ) Refusal → List ℕ → Type 0
 ShowsSource (Ok source) text = ShowsTree source text
 ShowsSource (Err why) text = text ≡ refused_shown why
 
--- What the reply to a command shows.
+-- What the reply to a command shows; no command makes the other steps.
 abbrev pub ShowsReply : Reply → List ℕ → Type 0
 ShowsReply (reply.Bad why) text = text ≡ refused_shown why
 ShowsReply reply.Rest text = text ≡ line (codes "< ok")
@@ -75,6 +76,7 @@ ShowsReply (reply.Mkdir r) text = text ≡ answer_shown nothing_shown r
 ShowsReply (reply.Rm r) text = text ≡ answer_shown nothing_shown r
 ShowsReply (reply.Write r) text = text ≡ answer_shown nothing_shown r
 ShowsReply (reply.Asm r) text = text ≡ answer_shown words_shown r
+ShowsReply r text = ⊥
 
 -- A line that is done shows what came of it.
 abbrev pub ShowsEnd : ℕ → Reply → List ℕ → Type 0

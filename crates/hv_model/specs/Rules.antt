@@ -5,8 +5,8 @@ use Rattle.hv_event.specs.declared.event.CellId.{CellId}
 use Rattle.hv_event.specs.declared.event.CellId.TheVariants as component
 use Rattle.hv_event.specs.declared.event.ActorId.TheVariants.{Hart, Terminal}
 use Rattle.hv_event.specs.declared.event.Event.{Event}
-use Rattle.hv_event.specs.declared.step.Step.{Step}
-use Rattle.hv_event.specs.declared.step.Step.TheVariants as step
+use Rattle.hv_step.specs.declared.step.Step.{Step}
+use Rattle.hv_step.specs.declared.step.Step.TheVariants as step
 use Rattle.hv_model.specs.Origin.{Origin}
 use Rattle.hv_model.specs.Cell.{Cell, Component, Actor, same_cell}
 use Rattle.hv_model.specs.CellLaws.{same_cell-self, same_cell-only}

@@ -10,12 +10,12 @@ use Rattle.hv_words.specs.declared.refusal.WordsRefusal.TheVariants as line
 use Rattle.hv_words.specs.Words.{words, commands_of}
 use Rattle.hv_words.specs.Commands.{Says}
 use Rattle.hv_event.specs.declared.event.Event.{Event}
-use Rattle.hv_event.specs.declared.step.Step.{Step}
-use Rattle.hv_event.specs.declared.step.Step.TheVariants as step
-use Rattle.hv_event.specs.declared.reply.Reply.{Reply}
-use Rattle.hv_event.specs.declared.reply.Reply.TheVariants as reply
-use Rattle.hv_event.specs.declared.reply.Refusal.{Refusal}
-use Rattle.hv_event.specs.declared.reply.Refusal.TheVariants as refusal
+use Rattle.hv_step.specs.declared.step.Step.{Step}
+use Rattle.hv_step.specs.declared.step.Step.TheVariants as step
+use Rattle.hv_answer.specs.declared.reply.Reply.{Reply}
+use Rattle.hv_answer.specs.declared.reply.Reply.TheVariants as reply
+use Rattle.hv_refusal.specs.declared.refusal.Refusal.{Refusal}
+use Rattle.hv_refusal.specs.declared.refusal.Refusal.TheVariants as refusal
 use Rattle.hv_model.specs.Entry.{Entry, Carry, handed_over}
 
 -- Open scripts, the innermost first; each is the list of its commands that are not begun.

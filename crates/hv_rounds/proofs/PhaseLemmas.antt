@@ -5,10 +5,10 @@ use Rattle.std.proofs.lemmas.List.{get_or_default}
 use Rattle.hv_machine.specs.Machine.{State, state_after}
 use Rattle.hv_event.specs.declared.event.ActorId.TheVariants.{Terminal}
 use Rattle.hv_event.specs.declared.event.Event.{Event}
-use Rattle.hv_event.specs.declared.step.Step.{Step}
-use Rattle.hv_event.specs.declared.step.Step.TheVariants as step
-use Rattle.hv_event.specs.declared.reply.Reply.{Reply}
-use Rattle.hv_event.specs.declared.reply.Reply.TheVariants as reply
+use Rattle.hv_step.specs.declared.step.Step.{Step}
+use Rattle.hv_step.specs.declared.step.Step.TheVariants as step
+use Rattle.hv_answer.specs.declared.reply.Reply.{Reply}
+use Rattle.hv_answer.specs.declared.reply.Reply.TheVariants as reply
 use Rattle.hv_model.specs.declared.entry.Entry.{Entry}
 use Rattle.hv_model.specs.Origin.{Origin}
 use Rattle.hv_model.specs.Terminal.{TerminalState, Scripts, next_in, begun_boot, line_begun, step_made, terminal_after, IsAtBootEnd}
@@ -165,10 +165,72 @@ line-own t line x xs own (step.Run s) (reply.Mkdir a) = refl
 line-own t line x xs own (step.Run s) (reply.Rm a) = refl
 line-own t line x xs own (step.Run s) (reply.Write a) = refl
 line-own t line x xs own (step.Run s) (reply.Asm a) = refl
+line-own t line x xs own (step.Run s) (reply.Guests a) = refl
+line-own t line x xs own (step.Run s) (reply.Name a) = refl
+line-own t line x xs own (step.Run s) (reply.Stage a) = refl
+line-own t line x xs own (step.Run s) (reply.Add a) = refl
+line-own t line x xs own (step.Run s) (reply.Drop a) = refl
+line-own t line x xs own (step.Run s) (reply.Regions a) = refl
+line-own t line x xs own (step.Run s) (reply.Load a) = refl
+line-own t line x xs own (step.Run s) (reply.Mem a) = refl
+line-own t line x xs own (step.Run s) (reply.Devreset a) = refl
+line-own t line x xs own (step.Run s) (reply.Feed a) = refl
+line-own t line x xs own (step.Run s) (reply.Output a) = refl
+line-own t line x xs own (step.Run s) (reply.Vadd a) = refl
+line-own t line x xs own (step.Run s) (reply.Vdrop a) = refl
+line-own t line x xs own (step.Run s) (reply.Kick a) = refl
+line-own t line x xs own (step.Run s) (reply.Resume a) = refl
+line-own t line x xs own (step.Run s) (reply.Pause a) = refl
+line-own t line x xs own (step.Run s) (reply.Halt a) = refl
+line-own t line x xs own (step.Run s) (reply.Reset a) = refl
+line-own t line x xs own (step.Run s) (reply.Look a) = refl
+line-own t line x xs own (step.Run s) (reply.Tick a) = refl
+line-own t line x xs own (step.Run s) reply.Idle = refl
+line-own t line x xs own (step.Run s) (reply.Dispatch a) = refl
+line-own t line x xs own (step.Run s) reply.Preempt = refl
+line-own t line x xs own (step.Run s) (reply.Leave a) = refl
+line-own t line x xs own (step.Run s) (reply.Take a) = refl
+line-own t line x xs own (step.Run s) (reply.Fetch a) = refl
+line-own t line x xs own (step.Run s) (reply.Access a) = refl
+line-own t line x xs own (step.Run s) (reply.Fault a) = refl
+line-own t line x xs own (step.Run s) (reply.Balance a) = refl
+line-own t line x xs own (step.Run s) (reply.Sample a) = refl
+line-own t line x xs own (step.Run s) (reply.Pin a) = refl
 line-own t line x xs own (step.Mkdir s) r = refl
 line-own t line x xs own (step.Rm s) r = refl
 line-own t line x xs own (step.Write s) r = refl
 line-own t line x xs own (step.Asm s) r = refl
+line-own t line x xs own (step.Guests s) r = refl
+line-own t line x xs own (step.Name s) r = refl
+line-own t line x xs own (step.Stage s) r = refl
+line-own t line x xs own (step.Add s) r = refl
+line-own t line x xs own (step.Drop s) r = refl
+line-own t line x xs own (step.Regions s) r = refl
+line-own t line x xs own (step.Load s) r = refl
+line-own t line x xs own (step.Mem s) r = refl
+line-own t line x xs own (step.Devreset s) r = refl
+line-own t line x xs own (step.Feed s) r = refl
+line-own t line x xs own (step.Output s) r = refl
+line-own t line x xs own (step.Vadd s) r = refl
+line-own t line x xs own (step.Vdrop s) r = refl
+line-own t line x xs own (step.Kick s) r = refl
+line-own t line x xs own (step.Resume s) r = refl
+line-own t line x xs own (step.Pause s) r = refl
+line-own t line x xs own (step.Halt s) r = refl
+line-own t line x xs own (step.Reset s) r = refl
+line-own t line x xs own (step.Look s) r = refl
+line-own t line x xs own (step.Tick s) r = refl
+line-own t line x xs own (step.Idle s) r = refl
+line-own t line x xs own (step.Dispatch s) r = refl
+line-own t line x xs own (step.Preempt s) r = refl
+line-own t line x xs own (step.Leave s) r = refl
+line-own t line x xs own (step.Take s) r = refl
+line-own t line x xs own (step.Fetch s) r = refl
+line-own t line x xs own (step.Access s) r = refl
+line-own t line x xs own (step.Fault s) r = refl
+line-own t line x xs own (step.Balance s) r = refl
+line-own t line x xs own (step.Sample s) r = refl
+line-own t line x xs own (step.Pin s) r = refl
 
 made-own : (t : TerminalState) (rests : ℕ) (next : Option (List ℕ × Scripts)) (s : Step) (r : Reply) → (rests ≡ 0 → next ≡ None → ⊥)
     → ((n : List ℕ × Scripts) → next ≡ Some n → (x : List (List ℕ)) × (xs : Scripts) × (n.1 ≡ x ∷ xs))

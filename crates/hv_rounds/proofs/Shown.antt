@@ -1,12 +1,12 @@
 -- What a step's reply shows is there to be shown.
 use Rattle.std.proofs.Common.{◌≡◌, ℕ, zero, suc, Option, Some, None, Result, Ok, Err, List, refl, sym, subst}
 use Rattle.hv_files.specs.declared.refusal.FileRefusal.{FileRefusal}
-use Rattle.hv_event.specs.declared.step.Step.{Step}
-use Rattle.hv_event.specs.declared.step.Rest.{Rest}
-use Rattle.hv_event.specs.declared.step.Step.TheVariants as step
-use Rattle.hv_event.specs.declared.reply.Reply.{Reply}
-use Rattle.hv_event.specs.declared.reply.Reply.TheVariants as reply
-use Rattle.hv_event.specs.declared.reply.Refusal.{Refusal}
+use Rattle.hv_step.specs.declared.step.Step.{Step}
+use Rattle.hv_step.specs.declared.step.Rest.{Rest}
+use Rattle.hv_step.specs.declared.step.Step.TheVariants as step
+use Rattle.hv_answer.specs.declared.reply.Reply.{Reply}
+use Rattle.hv_answer.specs.declared.reply.Reply.TheVariants as reply
+use Rattle.hv_refusal.specs.declared.refusal.Refusal.{Refusal}
 use Rattle.hv_words.specs.declared.command.Command.{Command}
 use Rattle.hv_words.specs.declared.command.Command.TheVariants as command
 use Rattle.hv_words.specs.declared.refusal.WordsRefusal.{WordsRefusal}
@@ -45,10 +45,72 @@ files-showable m (step.Run s) (reply.Mkdir r) c h = tt
 files-showable m (step.Run s) (reply.Rm r) c h = tt
 files-showable m (step.Run s) (reply.Write r) c h = tt
 files-showable m (step.Run s) (reply.Asm r) c h = tt
+files-showable m (step.Run s) (reply.Guests r) c h = absurd h
+files-showable m (step.Run s) (reply.Name r) c h = absurd h
+files-showable m (step.Run s) (reply.Stage r) c h = absurd h
+files-showable m (step.Run s) (reply.Add r) c h = absurd h
+files-showable m (step.Run s) (reply.Drop r) c h = absurd h
+files-showable m (step.Run s) (reply.Regions r) c h = absurd h
+files-showable m (step.Run s) (reply.Load r) c h = absurd h
+files-showable m (step.Run s) (reply.Mem r) c h = absurd h
+files-showable m (step.Run s) (reply.Devreset r) c h = absurd h
+files-showable m (step.Run s) (reply.Feed r) c h = absurd h
+files-showable m (step.Run s) (reply.Output r) c h = absurd h
+files-showable m (step.Run s) (reply.Vadd r) c h = absurd h
+files-showable m (step.Run s) (reply.Vdrop r) c h = absurd h
+files-showable m (step.Run s) (reply.Kick r) c h = absurd h
+files-showable m (step.Run s) (reply.Resume r) c h = absurd h
+files-showable m (step.Run s) (reply.Pause r) c h = absurd h
+files-showable m (step.Run s) (reply.Halt r) c h = absurd h
+files-showable m (step.Run s) (reply.Reset r) c h = absurd h
+files-showable m (step.Run s) (reply.Look r) c h = absurd h
+files-showable m (step.Run s) (reply.Tick r) c h = absurd h
+files-showable m (step.Run s) reply.Idle c h = absurd h
+files-showable m (step.Run s) (reply.Dispatch r) c h = absurd h
+files-showable m (step.Run s) reply.Preempt c h = absurd h
+files-showable m (step.Run s) (reply.Leave r) c h = absurd h
+files-showable m (step.Run s) (reply.Take r) c h = absurd h
+files-showable m (step.Run s) (reply.Fetch r) c h = absurd h
+files-showable m (step.Run s) (reply.Access r) c h = absurd h
+files-showable m (step.Run s) (reply.Fault r) c h = absurd h
+files-showable m (step.Run s) (reply.Balance r) c h = absurd h
+files-showable m (step.Run s) (reply.Sample r) c h = absurd h
+files-showable m (step.Run s) (reply.Pin r) c h = absurd h
 files-showable m (step.Mkdir s) r c h = shown-as r _ h tt
 files-showable m (step.Rm s) r c h = shown-as r _ h tt
 files-showable m (step.Write s) r c h = shown-as r _ h tt
 files-showable m (step.Asm s) r c h = shown-as r (reply.Asm h.0) h.1 tt
+files-showable m (step.Guests s) r c h = absurd h
+files-showable m (step.Name s) r c h = absurd h
+files-showable m (step.Stage s) r c h = absurd h
+files-showable m (step.Add s) r c h = absurd h
+files-showable m (step.Drop s) r c h = absurd h
+files-showable m (step.Regions s) r c h = absurd h
+files-showable m (step.Load s) r c h = absurd h
+files-showable m (step.Mem s) r c h = absurd h
+files-showable m (step.Devreset s) r c h = absurd h
+files-showable m (step.Feed s) r c h = absurd h
+files-showable m (step.Output s) r c h = absurd h
+files-showable m (step.Vadd s) r c h = absurd h
+files-showable m (step.Vdrop s) r c h = absurd h
+files-showable m (step.Kick s) r c h = absurd h
+files-showable m (step.Resume s) r c h = absurd h
+files-showable m (step.Pause s) r c h = absurd h
+files-showable m (step.Halt s) r c h = absurd h
+files-showable m (step.Reset s) r c h = absurd h
+files-showable m (step.Look s) r c h = absurd h
+files-showable m (step.Tick s) r c h = absurd h
+files-showable m (step.Idle s) r c h = absurd h
+files-showable m (step.Dispatch s) r c h = absurd h
+files-showable m (step.Preempt s) r c h = absurd h
+files-showable m (step.Leave s) r c h = absurd h
+files-showable m (step.Take s) r c h = absurd h
+files-showable m (step.Fetch s) r c h = absurd h
+files-showable m (step.Access s) r c h = absurd h
+files-showable m (step.Fault s) r c h = absurd h
+files-showable m (step.Balance s) r c h = absurd h
+files-showable m (step.Sample s) r c h = absurd h
+files-showable m (step.Pin s) r c h = absurd h
 
 -- a line that is bad has no other step
 bad-showable : (b : Begun) (lines : ℕ) (said : Result Command WordsRefusal) (r : Reply) (c : Carry) (bad : List ℕ)
@@ -97,6 +159,37 @@ step-showable (step.Mkdir s) old new own e rests b lines part next = files-showa
 step-showable (step.Rm s) old new own e rests b lines part next = files-showable old.tree e.event.step e.event.reply e.carry part.agrees
 step-showable (step.Write s) old new own e rests b lines part next = files-showable old.tree e.event.step e.event.reply e.carry part.agrees
 step-showable (step.Asm s) old new own e rests b lines part next = files-showable old.tree e.event.step e.event.reply e.carry part.agrees
+step-showable (step.Guests s) old new own e rests b lines part next = files-showable old.tree e.event.step e.event.reply e.carry part.agrees
+step-showable (step.Name s) old new own e rests b lines part next = files-showable old.tree e.event.step e.event.reply e.carry part.agrees
+step-showable (step.Stage s) old new own e rests b lines part next = files-showable old.tree e.event.step e.event.reply e.carry part.agrees
+step-showable (step.Add s) old new own e rests b lines part next = files-showable old.tree e.event.step e.event.reply e.carry part.agrees
+step-showable (step.Drop s) old new own e rests b lines part next = files-showable old.tree e.event.step e.event.reply e.carry part.agrees
+step-showable (step.Regions s) old new own e rests b lines part next = files-showable old.tree e.event.step e.event.reply e.carry part.agrees
+step-showable (step.Load s) old new own e rests b lines part next = files-showable old.tree e.event.step e.event.reply e.carry part.agrees
+step-showable (step.Mem s) old new own e rests b lines part next = files-showable old.tree e.event.step e.event.reply e.carry part.agrees
+step-showable (step.Devreset s) old new own e rests b lines part next = files-showable old.tree e.event.step e.event.reply e.carry part.agrees
+step-showable (step.Feed s) old new own e rests b lines part next = files-showable old.tree e.event.step e.event.reply e.carry part.agrees
+step-showable (step.Output s) old new own e rests b lines part next = files-showable old.tree e.event.step e.event.reply e.carry part.agrees
+step-showable (step.Vadd s) old new own e rests b lines part next = files-showable old.tree e.event.step e.event.reply e.carry part.agrees
+step-showable (step.Vdrop s) old new own e rests b lines part next = files-showable old.tree e.event.step e.event.reply e.carry part.agrees
+step-showable (step.Kick s) old new own e rests b lines part next = files-showable old.tree e.event.step e.event.reply e.carry part.agrees
+step-showable (step.Resume s) old new own e rests b lines part next = files-showable old.tree e.event.step e.event.reply e.carry part.agrees
+step-showable (step.Pause s) old new own e rests b lines part next = files-showable old.tree e.event.step e.event.reply e.carry part.agrees
+step-showable (step.Halt s) old new own e rests b lines part next = files-showable old.tree e.event.step e.event.reply e.carry part.agrees
+step-showable (step.Reset s) old new own e rests b lines part next = files-showable old.tree e.event.step e.event.reply e.carry part.agrees
+step-showable (step.Look s) old new own e rests b lines part next = files-showable old.tree e.event.step e.event.reply e.carry part.agrees
+step-showable (step.Tick s) old new own e rests b lines part next = files-showable old.tree e.event.step e.event.reply e.carry part.agrees
+step-showable (step.Idle s) old new own e rests b lines part next = files-showable old.tree e.event.step e.event.reply e.carry part.agrees
+step-showable (step.Dispatch s) old new own e rests b lines part next = files-showable old.tree e.event.step e.event.reply e.carry part.agrees
+step-showable (step.Preempt s) old new own e rests b lines part next = files-showable old.tree e.event.step e.event.reply e.carry part.agrees
+step-showable (step.Leave s) old new own e rests b lines part next = files-showable old.tree e.event.step e.event.reply e.carry part.agrees
+step-showable (step.Take s) old new own e rests b lines part next = files-showable old.tree e.event.step e.event.reply e.carry part.agrees
+step-showable (step.Fetch s) old new own e rests b lines part next = files-showable old.tree e.event.step e.event.reply e.carry part.agrees
+step-showable (step.Access s) old new own e rests b lines part next = files-showable old.tree e.event.step e.event.reply e.carry part.agrees
+step-showable (step.Fault s) old new own e rests b lines part next = files-showable old.tree e.event.step e.event.reply e.carry part.agrees
+step-showable (step.Balance s) old new own e rests b lines part next = files-showable old.tree e.event.step e.event.reply e.carry part.agrees
+step-showable (step.Sample s) old new own e rests b lines part next = files-showable old.tree e.event.step e.event.reply e.carry part.agrees
+step-showable (step.Pin s) old new own e rests b lines part next = files-showable old.tree e.event.step e.event.reply e.carry part.agrees
 
 -- of a terminal's step
 pub is-showable : (old new : FileCell) (t t' : Terminal) (e : Entry) → IsStep old new t t' e → IsShowable e.event.reply

@@ -8,12 +8,12 @@ use Rattle.hv_words.specs.declared.refusal.WordsRefusal.TheVariants as line
 use Rattle.hv_words.specs.Words.{words}
 use Rattle.hv_words.specs.Commands.{Says, Gives, FitAll, RestCount, NumberGiven, Kind}
 use Rattle.hv_event.specs.declared.event.ActorId.TheVariants as actor
-use Rattle.hv_event.specs.declared.step.Step.{Step}
-use Rattle.hv_event.specs.declared.step.Step.TheVariants as step
-use Rattle.hv_event.specs.declared.reply.Reply.{Reply}
-use Rattle.hv_event.specs.declared.reply.Reply.TheVariants as reply
-use Rattle.hv_event.specs.declared.reply.Refusal.{Refusal}
-use Rattle.hv_event.specs.declared.reply.Refusal.TheVariants as refusal
+use Rattle.hv_step.specs.declared.step.Step.{Step}
+use Rattle.hv_step.specs.declared.step.Step.TheVariants as step
+use Rattle.hv_answer.specs.declared.reply.Reply.{Reply}
+use Rattle.hv_answer.specs.declared.reply.Reply.TheVariants as reply
+use Rattle.hv_refusal.specs.declared.refusal.Refusal.{Refusal}
+use Rattle.hv_refusal.specs.declared.refusal.Refusal.TheVariants as refusal
 use Rattle.hv_files.specs.declared.refusal.FileRefusal.{FileRefusal}
 use Rattle.hv_model.specs.declared.entry.Entry.{Entry}
 use Rattle.hv_model.specs.declared.entry.Carry.{Carry}
@@ -91,6 +91,37 @@ files-replies b lines (step.Mkdir s) r c kind = tt
 files-replies b lines (step.Rm s) r c kind = tt
 files-replies b lines (step.Write s) r c kind = tt
 files-replies b lines (step.Asm s) r c kind = tt
+files-replies b lines (step.Guests s) r c kind = absurd kind
+files-replies b lines (step.Name s) r c kind = absurd kind
+files-replies b lines (step.Stage s) r c kind = absurd kind
+files-replies b lines (step.Add s) r c kind = absurd kind
+files-replies b lines (step.Drop s) r c kind = absurd kind
+files-replies b lines (step.Regions s) r c kind = absurd kind
+files-replies b lines (step.Load s) r c kind = absurd kind
+files-replies b lines (step.Mem s) r c kind = absurd kind
+files-replies b lines (step.Devreset s) r c kind = absurd kind
+files-replies b lines (step.Feed s) r c kind = absurd kind
+files-replies b lines (step.Output s) r c kind = absurd kind
+files-replies b lines (step.Vadd s) r c kind = absurd kind
+files-replies b lines (step.Vdrop s) r c kind = absurd kind
+files-replies b lines (step.Kick s) r c kind = absurd kind
+files-replies b lines (step.Resume s) r c kind = absurd kind
+files-replies b lines (step.Pause s) r c kind = absurd kind
+files-replies b lines (step.Halt s) r c kind = absurd kind
+files-replies b lines (step.Reset s) r c kind = absurd kind
+files-replies b lines (step.Look s) r c kind = absurd kind
+files-replies b lines (step.Tick s) r c kind = absurd kind
+files-replies b lines (step.Idle s) r c kind = absurd kind
+files-replies b lines (step.Dispatch s) r c kind = absurd kind
+files-replies b lines (step.Preempt s) r c kind = absurd kind
+files-replies b lines (step.Leave s) r c kind = absurd kind
+files-replies b lines (step.Take s) r c kind = absurd kind
+files-replies b lines (step.Fetch s) r c kind = absurd kind
+files-replies b lines (step.Access s) r c kind = absurd kind
+files-replies b lines (step.Fault s) r c kind = absurd kind
+files-replies b lines (step.Balance s) r c kind = absurd kind
+files-replies b lines (step.Sample s) r c kind = absurd kind
+files-replies b lines (step.Pin s) r c kind = absurd kind
 
 pub files-hand-nothing : (s : Step) (c : Carry) → IsFilesStep s → handed_over s c ≡ nothing
 files-hand-nothing (step.Bad s) c kind = refl
@@ -103,6 +134,37 @@ files-hand-nothing (step.Mkdir s) c kind = refl
 files-hand-nothing (step.Rm s) c kind = refl
 files-hand-nothing (step.Write s) c kind = refl
 files-hand-nothing (step.Asm s) c kind = refl
+files-hand-nothing (step.Guests s) c kind = absurd kind
+files-hand-nothing (step.Name s) c kind = absurd kind
+files-hand-nothing (step.Stage s) c kind = absurd kind
+files-hand-nothing (step.Add s) c kind = absurd kind
+files-hand-nothing (step.Drop s) c kind = absurd kind
+files-hand-nothing (step.Regions s) c kind = absurd kind
+files-hand-nothing (step.Load s) c kind = absurd kind
+files-hand-nothing (step.Mem s) c kind = absurd kind
+files-hand-nothing (step.Devreset s) c kind = absurd kind
+files-hand-nothing (step.Feed s) c kind = absurd kind
+files-hand-nothing (step.Output s) c kind = absurd kind
+files-hand-nothing (step.Vadd s) c kind = absurd kind
+files-hand-nothing (step.Vdrop s) c kind = absurd kind
+files-hand-nothing (step.Kick s) c kind = absurd kind
+files-hand-nothing (step.Resume s) c kind = absurd kind
+files-hand-nothing (step.Pause s) c kind = absurd kind
+files-hand-nothing (step.Halt s) c kind = absurd kind
+files-hand-nothing (step.Reset s) c kind = absurd kind
+files-hand-nothing (step.Look s) c kind = absurd kind
+files-hand-nothing (step.Tick s) c kind = absurd kind
+files-hand-nothing (step.Idle s) c kind = absurd kind
+files-hand-nothing (step.Dispatch s) c kind = absurd kind
+files-hand-nothing (step.Preempt s) c kind = absurd kind
+files-hand-nothing (step.Leave s) c kind = absurd kind
+files-hand-nothing (step.Take s) c kind = absurd kind
+files-hand-nothing (step.Fetch s) c kind = absurd kind
+files-hand-nothing (step.Access s) c kind = absurd kind
+files-hand-nothing (step.Fault s) c kind = absurd kind
+files-hand-nothing (step.Balance s) c kind = absurd kind
+files-hand-nothing (step.Sample s) c kind = absurd kind
+files-hand-nothing (step.Pin s) c kind = absurd kind
 
 pub files-begin : (t : TerminalState) (b : Begun) (s : Step) (r : Reply) → IsFilesStep s
     → line_begun t b s r ≡ record { count = t.count + 1; rests = 0; boot = b.boot; own = b.own; lines = t.lines }
@@ -116,6 +178,37 @@ files-begin t b (step.Mkdir s) r kind = refl
 files-begin t b (step.Rm s) r kind = refl
 files-begin t b (step.Write s) r kind = refl
 files-begin t b (step.Asm s) r kind = refl
+files-begin t b (step.Guests s) r kind = absurd kind
+files-begin t b (step.Name s) r kind = absurd kind
+files-begin t b (step.Stage s) r kind = absurd kind
+files-begin t b (step.Add s) r kind = absurd kind
+files-begin t b (step.Drop s) r kind = absurd kind
+files-begin t b (step.Regions s) r kind = absurd kind
+files-begin t b (step.Load s) r kind = absurd kind
+files-begin t b (step.Mem s) r kind = absurd kind
+files-begin t b (step.Devreset s) r kind = absurd kind
+files-begin t b (step.Feed s) r kind = absurd kind
+files-begin t b (step.Output s) r kind = absurd kind
+files-begin t b (step.Vadd s) r kind = absurd kind
+files-begin t b (step.Vdrop s) r kind = absurd kind
+files-begin t b (step.Kick s) r kind = absurd kind
+files-begin t b (step.Resume s) r kind = absurd kind
+files-begin t b (step.Pause s) r kind = absurd kind
+files-begin t b (step.Halt s) r kind = absurd kind
+files-begin t b (step.Reset s) r kind = absurd kind
+files-begin t b (step.Look s) r kind = absurd kind
+files-begin t b (step.Tick s) r kind = absurd kind
+files-begin t b (step.Idle s) r kind = absurd kind
+files-begin t b (step.Dispatch s) r kind = absurd kind
+files-begin t b (step.Preempt s) r kind = absurd kind
+files-begin t b (step.Leave s) r kind = absurd kind
+files-begin t b (step.Take s) r kind = absurd kind
+files-begin t b (step.Fetch s) r kind = absurd kind
+files-begin t b (step.Access s) r kind = absurd kind
+files-begin t b (step.Fault s) r kind = absurd kind
+files-begin t b (step.Balance s) r kind = absurd kind
+files-begin t b (step.Sample s) r kind = absurd kind
+files-begin t b (step.Pin s) r kind = absurd kind
 
 pub files-touch : (s : Step) (old new : FileCell) (own : ℕ) (e : Entry) → IsFilesStep s → TouchesFiles old new own e → FilesPart s old new own e
 files-touch (step.Bad s) old new own e kind h = absurd kind
@@ -128,6 +221,37 @@ files-touch (step.Mkdir s) old new own e kind h = h
 files-touch (step.Rm s) old new own e kind h = h
 files-touch (step.Write s) old new own e kind h = h
 files-touch (step.Asm s) old new own e kind h = h
+files-touch (step.Guests s) old new own e kind h = absurd kind
+files-touch (step.Name s) old new own e kind h = absurd kind
+files-touch (step.Stage s) old new own e kind h = absurd kind
+files-touch (step.Add s) old new own e kind h = absurd kind
+files-touch (step.Drop s) old new own e kind h = absurd kind
+files-touch (step.Regions s) old new own e kind h = absurd kind
+files-touch (step.Load s) old new own e kind h = absurd kind
+files-touch (step.Mem s) old new own e kind h = absurd kind
+files-touch (step.Devreset s) old new own e kind h = absurd kind
+files-touch (step.Feed s) old new own e kind h = absurd kind
+files-touch (step.Output s) old new own e kind h = absurd kind
+files-touch (step.Vadd s) old new own e kind h = absurd kind
+files-touch (step.Vdrop s) old new own e kind h = absurd kind
+files-touch (step.Kick s) old new own e kind h = absurd kind
+files-touch (step.Resume s) old new own e kind h = absurd kind
+files-touch (step.Pause s) old new own e kind h = absurd kind
+files-touch (step.Halt s) old new own e kind h = absurd kind
+files-touch (step.Reset s) old new own e kind h = absurd kind
+files-touch (step.Look s) old new own e kind h = absurd kind
+files-touch (step.Tick s) old new own e kind h = absurd kind
+files-touch (step.Idle s) old new own e kind h = absurd kind
+files-touch (step.Dispatch s) old new own e kind h = absurd kind
+files-touch (step.Preempt s) old new own e kind h = absurd kind
+files-touch (step.Leave s) old new own e kind h = absurd kind
+files-touch (step.Take s) old new own e kind h = absurd kind
+files-touch (step.Fetch s) old new own e kind h = absurd kind
+files-touch (step.Access s) old new own e kind h = absurd kind
+files-touch (step.Fault s) old new own e kind h = absurd kind
+files-touch (step.Balance s) old new own e kind h = absurd kind
+files-touch (step.Sample s) old new own e kind h = absurd kind
+files-touch (step.Pin s) old new own e kind h = absurd kind
 
 -- a line that gives no command
 
@@ -144,6 +268,22 @@ bad-said b lines refusal.TooDeep c bad = absurd bad
 bad-said b lines refusal.TooLong c bad = absurd bad
 bad-said b lines (refusal.BadTree k) c bad = absurd bad
 bad-said b lines (refusal.BadAsm k) c bad = absurd bad
+bad-said b lines refusal.NoSuchGuest c bad = absurd bad
+bad-said b lines refusal.NoRegion c bad = absurd bad
+bad-said b lines refusal.NoGuest c bad = absurd bad
+bad-said b lines refusal.NameUsed c bad = absurd bad
+bad-said b lines refusal.NoSlot c bad = absurd bad
+bad-said b lines refusal.Live c bad = absurd bad
+bad-said b lines refusal.NotLive c bad = absurd bad
+bad-said b lines refusal.AliasTarget c bad = absurd bad
+bad-said b lines refusal.NoEmulator c bad = absurd bad
+bad-said b lines refusal.NoWindow c bad = absurd bad
+bad-said b lines refusal.NotMemory c bad = absurd bad
+bad-said b lines refusal.NotSerial c bad = absurd bad
+bad-said b lines (refusal.GuestState k) c bad = absurd bad
+bad-said b lines (refusal.Overlap k) c bad = absurd bad
+bad-said b lines (refusal.WrongState k) c bad = absurd bad
+bad-said b lines (refusal.BadNode path cause) c bad = absurd bad
 
 -- a script that is run
 

@@ -2,8 +2,8 @@
 use Rattle.std.specs.Prelude.{◌≡◌, ◌⊎◌, ℕ, ◌+◌, ◌≤◌, Option, Some, None, Result, Ok, Err, List, length}
 use Rattle.hv_text.specs.Lines.{script_lines}
 use Rattle.hv_words.specs.Words.{commands_of}
-use Rattle.hv_event.specs.declared.reply.Refusal.{Refusal}
-use Rattle.hv_event.specs.declared.reply.Refusal.TheVariants as refusal
+use Rattle.hv_refusal.specs.declared.refusal.Refusal.{Refusal}
+use Rattle.hv_refusal.specs.declared.refusal.Refusal.TheVariants as refusal
 use Rattle.hv_model.specs.Terminal.{opened}
 use Rattle.hv_rounds.specs.declared.terminal.Terminal.{Terminal}
 

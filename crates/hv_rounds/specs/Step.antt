@@ -1,16 +1,16 @@
 -- One step of a terminal over the files.
 use Rattle.std.specs.Prelude.{◌≡◌, ℕ, ◌+◌, ◌^◌, ◌++◌, max, Option, Some, Result, Ok, Err, List}
 use Rattle.hv_event.specs.declared.event.ActorId.TheVariants as actor
-use Rattle.hv_event.specs.declared.step.Step.{Step}
-use Rattle.hv_event.specs.declared.step.Step.TheVariants as step
-use Rattle.hv_event.specs.declared.reply.Reply.{Reply}
-use Rattle.hv_event.specs.declared.reply.Reply.TheVariants as reply
+use Rattle.hv_step.specs.declared.step.Step.{Step}
+use Rattle.hv_step.specs.declared.step.Step.TheVariants as step
+use Rattle.hv_answer.specs.declared.reply.Reply.{Reply}
+use Rattle.hv_answer.specs.declared.reply.Reply.TheVariants as reply
 use Rattle.hv_dtree.specs.declared.node.Node.{Node}
 use Rattle.hv_dts.specs.Reading.{IsSourceOf}
 use Rattle.hv_model.specs.declared.entry.Entry.{Entry}
 use Rattle.hv_model.specs.Files.{FilesAgree, files_after}
-use Rattle.hv_event.specs.declared.reply.Refusal.{Refusal}
-use Rattle.hv_event.specs.declared.reply.Refusal.TheVariants as refusal
+use Rattle.hv_refusal.specs.declared.refusal.Refusal.{Refusal}
+use Rattle.hv_refusal.specs.declared.refusal.Refusal.TheVariants as refusal
 use Rattle.hv_words.specs.declared.command.Command.{Command}
 use Rattle.hv_words.specs.Commands.{Gives, IsNoCommand, HasBadWord}
 use Rattle.hv_model.specs.Terminal.{TerminalState, TerminalAgrees, terminal_after, begun, step_of}
@@ -83,10 +83,20 @@ pub record IsAsked (line : List ℕ) (s : Step) : Type 0 where
   pub gives : Gives line asked
   pub step_is : s ≡ step_of asked
 
--- what a reply shows is there: a source that is shown stands for a tree
+-- a reply is one to a command, and what it shows is there: a source that is shown stands for a tree
 abbrev pub IsShowable : Reply → Type 0
 IsShowable (reply.Dts (Ok source)) = (tree : Node) × IsSourceOf source tree
-IsShowable r = Unit {0}
+IsShowable (reply.Dts (Err why)) = Unit {0}
+IsShowable (reply.Bad why) = Unit {0}
+IsShowable reply.Rest = Unit {0}
+IsShowable (reply.Ls r) = Unit {0}
+IsShowable (reply.Cat r) = Unit {0}
+IsShowable (reply.Run r) = Unit {0}
+IsShowable (reply.Mkdir r) = Unit {0}
+IsShowable (reply.Rm r) = Unit {0}
+IsShowable (reply.Write r) = Unit {0}
+IsShowable (reply.Asm r) = Unit {0}
+IsShowable r = ⊥
 
 -- behind what a terminal has shown stands what a reply shows
 pub record AppendsReply (r : Reply) (old new : List ℕ) : Type 0 where

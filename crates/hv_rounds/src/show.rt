@@ -3,7 +3,7 @@ ghost use Rattle.std.specs.Prelude.{◌≡◌, ◌++◌, ◌∷◌, [], Ok, OnOk
 ghost use Rattle.hv_dtree.specs.declared.node.Node.{Node};
 ghost use Rattle.hv_dts.specs.Reading.{IsSourceOf};
 ghost use Rattle.std.specs.List.{flat_map};
-ghost use Rattle.hv_event.specs.Line.{refusal_text};
+ghost use Rattle.hv_refusal.specs.Refusal.{refusal_text};
 ghost use Rattle.hv_model.specs.Report.{line, shown, names_shown, answer_shown, nothing_shown, words_shown, refused_shown};
 ghost use Rattle.hv_rounds.specs.Step.{IsShowable, AppendsReply};
 
@@ -50,8 +50,8 @@ fn push_names(to: &mut Bytes, names: &[Bytes]) -> Result<(), AllocError>
     Ok(())
 }
 
-fn push_refused(alloc: Global, to: &mut Bytes, why: Refusal) -> Result<(), AllocError>
-    ensures { OnOk result (to.new ≡ to.old ++ refused_shown why) }
+fn push_refused(alloc: Global, to: &mut Bytes, why: &Refusal) -> Result<(), AllocError>
+    ensures { OnOk result (to.new ≡ to.old ++ refused_shown why.now) }
 {
     to.append(b"< refused ")?;
     print_refusal(alloc, to, why)?;
@@ -76,7 +76,7 @@ fn push_listed(
             push_names(to, names.as_slice())?;
             push_done(to)
         }
-        Err(why) => push_refused(alloc, to, *why),
+        Err(why) => push_refused(alloc, to, why),
     }
 }
 
@@ -92,7 +92,7 @@ fn push_read(
             push_file(to, bytes.as_slice())?;
             push_done(to)
         }
-        Err(why) => push_refused(alloc, to, *why),
+        Err(why) => push_refused(alloc, to, why),
     }
 }
 
@@ -105,7 +105,7 @@ fn push_run(
 {
     match answer {
         Ok(_) => push_done(to),
-        Err(why) => push_refused(alloc, to, *why),
+        Err(why) => push_refused(alloc, to, why),
     }
 }
 
@@ -118,7 +118,7 @@ fn push_changed(
 {
     match answer {
         Ok(()) => push_done(to),
-        Err(why) => push_refused(alloc, to, *why),
+        Err(why) => push_refused(alloc, to, why),
     }
 }
 
@@ -150,7 +150,7 @@ fn push_source(
 {
     match answer {
         Ok(source) => push_tree(alloc, to, source.as_slice()),
-        Err(why) => push_refused(alloc, to, *why),
+        Err(why) => push_refused(alloc, to, why),
     }
 }
 
@@ -167,7 +167,7 @@ fn push_assembled(
             push_line(to, b" words")?;
             push_done(to)
         }
-        Err(why) => push_refused(alloc, to, *why),
+        Err(why) => push_refused(alloc, to, why),
     }
 }
 
@@ -177,7 +177,7 @@ pub fn push_reply(alloc: Global, to: &mut Bytes, reply: &Reply) -> Result<(), Al
     ensures { OnOk result (AppendsReply reply.now to.old to.new) }
 {
     match reply {
-        Reply::Bad(why) => push_refused(alloc, to, *why),
+        Reply::Bad(why) => push_refused(alloc, to, why),
         Reply::Rest => push_done(to),
         Reply::Ls(answer) => push_listed(alloc, to, answer),
         Reply::Cat(answer) => push_read(alloc, to, answer),
@@ -187,5 +187,36 @@ pub fn push_reply(alloc: Global, to: &mut Bytes, reply: &Reply) -> Result<(), Al
         Reply::Rm(answer) => push_changed(alloc, to, answer),
         Reply::Write(answer) => push_changed(alloc, to, answer),
         Reply::Asm(answer) => push_assembled(alloc, to, answer),
+        Reply::Guests(_)
+        | Reply::Name(_)
+        | Reply::Stage(_)
+        | Reply::Add(_)
+        | Reply::Drop(_)
+        | Reply::Regions(_)
+        | Reply::Load(_)
+        | Reply::Mem(_)
+        | Reply::Devreset(_)
+        | Reply::Feed(_)
+        | Reply::Output(_)
+        | Reply::Vadd(_)
+        | Reply::Vdrop(_)
+        | Reply::Kick(_)
+        | Reply::Resume(_)
+        | Reply::Pause(_)
+        | Reply::Halt(_)
+        | Reply::Reset(_)
+        | Reply::Look(_)
+        | Reply::Tick(_)
+        | Reply::Idle
+        | Reply::Dispatch(_)
+        | Reply::Preempt
+        | Reply::Leave(_)
+        | Reply::Take(_)
+        | Reply::Fetch(_)
+        | Reply::Access(_)
+        | Reply::Fault(_)
+        | Reply::Balance(_)
+        | Reply::Sample(_)
+        | Reply::Pin(_) => unreachable!(),
     }
 }

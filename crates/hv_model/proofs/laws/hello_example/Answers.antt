@@ -9,8 +9,8 @@ use Rattle.hv_machine.specs.Machine.{State, greatest, MayHappen, IsRun}
 use Rattle.hv_machine.specs.Phases.{IsTwoPart}
 use Rattle.hv_event.specs.declared.event.CellId.TheVariants as component
 use Rattle.hv_event.specs.declared.event.Event.{Event}
-use Rattle.hv_event.specs.declared.reply.Reply.{Reply}
-use Rattle.hv_event.specs.declared.reply.Reply.TheVariants as reply
+use Rattle.hv_answer.specs.declared.reply.Reply.{Reply}
+use Rattle.hv_answer.specs.declared.reply.Reply.TheVariants as reply
 use Rattle.hv_model.specs.Cell.{Component, is_actor}
 use Rattle.hv_model.specs.Entry.{Entry, nothing}
 use Rattle.hv_model.specs.Files.{load_files, read_file, answered}

@@ -1,6 +1,0 @@
-use Rattle.std.proofs.Common.{take}
-use Rattle.hv_event.specs.Written.{AreListedNames}
-use Rattle.hv_event.proofs.word.are_listed_names.Given as goal
-
-abbrev pub invariant-loop-entry : goal.invariant-loop-entry
-invariant-loop-entry l = AreListedNames (take l.entry-index l.entries)
