@@ -43,3 +43,6 @@ pub use word::{
     address_word, bytes_word, changes_word, generation_word, name_word, names_word, number_word,
     number8_word, path_word, state_word,
 };
+
+#[cfg(test)]
+mod tests;
