@@ -23,7 +23,7 @@ fn behind_arrow(words: &[Bytes]) -> Option<&[Bytes]>
         (λ rest. words.now ≡ arrow ∷ rest.now) }
 {
     let (first, rest) = words.split_first()?;
-    if first.as_slice() != b"->" {
+    if first.as_slice() != b"->".as_slice() {
         return None;
     }
     Some(rest)
