@@ -154,5 +154,7 @@ pub fn read_input<S: Source>(alloc: Global, source: &mut S) -> Result<Input, Inp
         Err(BundleRefusal::BadBundle(offset)) => return Err(InputRefusal::BadBundle(offset)),
         Err(BundleRefusal::Memory(error)) => return Err(InputRefusal::Memory(error)),
     };
-    input_of(alloc, files, bytes.len())
+    let size = bytes.len();
+    drop(bytes);
+    input_of(alloc, files, size)
 }
