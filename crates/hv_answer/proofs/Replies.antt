@@ -8,6 +8,9 @@ use Rattle.hv_data.specs.Text.{address_text}
 use Rattle.hv_data.specs.Written.{IsNumber, AreBytes, AreListedNames, AreChanges, IsState, IsAny}
 use Rattle.hv_data.specs.Data.{HaveNoSpace}
 use Rattle.hv_data.proofs.DataLemmas.{free_by_test}
+use Rattle.hv_look.specs.declared.look.Look.{Look}
+use Rattle.hv_look.specs.Look.{IsLook, look_words}
+use Rattle.hv_look.proofs.Looks.{same_look, look_free}
 use Rattle.hv_name.specs.declared.name.StepName.{StepName}
 use Rattle.hv_name.specs.declared.name.StepName.TheVariants as name
 use Rattle.hv_refusal.specs.declared.refusal.Refusal.{Refusal}
@@ -58,6 +61,12 @@ long_fetched f = longer f.outcome
     longer outcome.Access = omega arith
     longer (outcome.Trap c) = omega arith
 
+look_law : Law Look IsLook (λ l. codes "ok" ∷ look_words l)
+look_law = record {
+  same = λ x y h k e. same_look x y h k (cc e);
+  free = λ x h. (free_by_test 32 (codes "ok") refl, look_free x h);
+}
+
 -- the words of a step's replies
 plain : (n : StepName) → IsPlain (IsReplyOf n)
 plain name.Bad = made Refusal (MayRefuse name.Bad) refused_words reply.Bad (λ x. refl) (refused_law name.Bad)
@@ -86,6 +95,7 @@ plain name.Resume = made (Result (Unit {0}) Refusal) (IsAnswer IsAny name.Resume
 plain name.Pause = made (Result (Unit {0}) Refusal) (IsAnswer IsAny name.Pause) (given_words no_words) reply.Pause (λ x. refl) (given_law (Unit {0}) IsAny no_words name.Pause nothing_law)
 plain name.Halt = made (Result (Unit {0}) Refusal) (IsAnswer IsAny name.Halt) (given_words no_words) reply.Halt (λ x. refl) (given_law (Unit {0}) IsAny no_words name.Halt nothing_law)
 plain name.Reset = made (Result (Unit {0}) Refusal) (IsAnswer IsAny name.Reset) (given_words no_words) reply.Reset (λ x. refl) (given_law (Unit {0}) IsAny no_words name.Reset nothing_law)
+plain name.Look = made Look IsLook (λ l. codes "ok" ∷ look_words l) reply.Look (λ x. refl) look_law
 plain name.Tick = made (Option SignalChanges) (IsMaybe AreChanges) (maybe_words (codes "none") ticked_words) reply.Tick (λ x. refl) (maybe_law SignalChanges AreChanges ticked_words (codes "none") refl (λ x. omega arith) ticked_law)
 plain name.Idle = alone reply.Idle refl
 plain name.Dispatch = made (Result ℕ Refusal) (IsAnswer IsNumber32 name.Dispatch) (given_words number_words) reply.Dispatch (λ x. refl) (given_law ℕ IsNumber32 number_words name.Dispatch slice_law)

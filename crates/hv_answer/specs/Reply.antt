@@ -2,6 +2,7 @@
 use Rattle.std.specs.Prelude.{◌≡◌, ℕ, List, [], ◌∷◌, codes, Result, Ok, Err}
 use Rattle.std.specs.List.{join_with_byte}
 use Rattle.hv_data.specs.Written.{IsNumber, AreBytes, AreListedNames, IsState, AreChanges, IsAny}
+use Rattle.hv_look.specs.Look.{IsLook, look_words}
 use Rattle.hv_name.specs.declared.name.StepName.{StepName}
 use Rattle.hv_name.specs.declared.name.StepName.TheVariants as name
 use Rattle.hv_refusal.specs.declared.refusal.Refusal.{Refusal}
@@ -55,6 +56,7 @@ reply_words (reply.Resume answer) = given_words no_words answer
 reply_words (reply.Pause answer) = given_words no_words answer
 reply_words (reply.Halt answer) = given_words no_words answer
 reply_words (reply.Reset answer) = given_words no_words answer
+reply_words (reply.Look look) = codes "ok" ∷ look_words look
 reply_words (reply.Tick answer) = maybe_words (codes "none") ticked_words answer
 reply_words reply.Idle = codes "ok" ∷ []
 reply_words (reply.Dispatch answer) = given_words number_words answer
@@ -104,6 +106,7 @@ IsReplyOf name.Resume r = IsMade reply.Resume (IsAnswer IsAny name.Resume) r
 IsReplyOf name.Pause r = IsMade reply.Pause (IsAnswer IsAny name.Pause) r
 IsReplyOf name.Halt r = IsMade reply.Halt (IsAnswer IsAny name.Halt) r
 IsReplyOf name.Reset r = IsMade reply.Reset (IsAnswer IsAny name.Reset) r
+IsReplyOf name.Look r = IsMade reply.Look IsLook r
 IsReplyOf name.Tick r = IsMade reply.Tick (IsMaybe AreChanges) r
 IsReplyOf name.Idle r = r ≡ reply.Idle
 IsReplyOf name.Dispatch r = IsMade reply.Dispatch (IsAnswer IsNumber32 name.Dispatch) r

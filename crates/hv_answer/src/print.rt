@@ -10,6 +10,7 @@ use crate::reply::{Accessed, Fetched, Moved, Outcome, Pinned, Pins, Reply, Sampl
 use hv_data::{
     Generation, SignalChanges, push_address, push_bytes, push_changes, push_names, push_state,
 };
+use hv_look::print_look;
 use hv_refusal::{Refusal, print_refusal};
 use hv_text::{Bytes, Strings, push_decimal};
 use std::alloc::{AllocError, Global};
@@ -283,6 +284,10 @@ fn push_reply(alloc: Global, to: &mut Bytes, reply: &Reply) -> Result<(), AllocE
         Reply::Pause(answer) => push_done(alloc, to, answer),
         Reply::Halt(answer) => push_done(alloc, to, answer),
         Reply::Reset(answer) => push_done(alloc, to, answer),
+        Reply::Look(look) => {
+            to.append(b"ok ")?;
+            print_look(alloc, to, look)
+        }
         Reply::Tick(answer) => push_tick(alloc, to, answer),
         Reply::Idle => to.append(b"ok"),
         Reply::Dispatch(answer) => push_given_slice(alloc, to, answer),

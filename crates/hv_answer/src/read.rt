@@ -17,6 +17,7 @@ use crate::told::{
     read_access, read_balance, read_fetch, read_pin, read_sample, read_state, read_tick,
 };
 use hv_data::WordRefusal;
+use hv_look::read_look;
 use hv_name::StepName;
 use hv_text::Bytes;
 use std::alloc::Global;
@@ -66,6 +67,18 @@ fn read_preempt(words: &[Bytes]) -> Result<Reply, WordRefusal>
     Ok(Reply::Preempt)
 }
 
+/// The reply of a look at a VCPU.
+fn read_shown(alloc: Global, words: &[Bytes]) -> Result<Reply, WordRefusal>
+    ensures { MatchResult result
+        (λ reply. AreReplyWords StepName.Look words.now reply)
+        (λ e. Because e ((reply : Reply) → AreReplyWords StepName.Look words.now reply → ⊥)) }
+{
+    let Some(shown) = behind_word(words, b"ok") else {
+        return Err(WordRefusal::BadWord);
+    };
+    Ok(Reply::Look(read_look(alloc, shown)?))
+}
+
 /// The reply of a step with a name.
 pub fn read_reply(alloc: Global, name: StepName, words: &[Bytes]) -> Result<Reply, WordRefusal>
     // The words are those of what is read, and they are refused exactly where no reply of the step
@@ -103,7 +116,7 @@ pub fn read_reply(alloc: Global, name: StepName, words: &[Bytes]) -> Result<Repl
         StepName::Pause => Ok(Reply::Pause(given_nothing(alloc, name, words)?)),
         StepName::Halt => Ok(Reply::Halt(given_nothing(alloc, name, words)?)),
         StepName::Reset => Ok(Reply::Reset(given_nothing(alloc, name, words)?)),
-        StepName::Look => Err(WordRefusal::BadWord),
+        StepName::Look => read_shown(alloc, words),
         StepName::Tick => Ok(Reply::Tick(read_tick(words)?)),
         StepName::Idle => read_idle(words),
         StepName::Dispatch => Ok(Reply::Dispatch(given_slice(alloc, name, words)?)),

@@ -1,5 +1,6 @@
 //! Replies: what came of a step.
 use hv_data::{Generation, SignalChanges, State};
+use hv_look::Look;
 use hv_refusal::Refusal;
 use hv_text::{Bytes, Strings};
 
@@ -98,6 +99,7 @@ pub enum Reply {
     Pause(Result<(), Refusal>),
     Halt(Result<(), Refusal>),
     Reset(Result<(), Refusal>),
+    Look(Look),
     /// Nothing where the guest has no live clock.
     Tick(Option<SignalChanges>),
     Idle,

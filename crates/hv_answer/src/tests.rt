@@ -5,8 +5,12 @@ use hv_name::StepName;
 use hv_text::Bytes;
 use std::test::Fail;
 
+/// A VCPU that was never added.
+const LOOK: &[u8] =
+    b"ok Unknown 0 0 0x0 0x0 0x0 0x0 0x0 0x0 0x0 0x0 0x0 0x0 0x0 0x0 0x0 0x0 0x0 0x0 0x0 0x0 0x0 0x0 0x0 0x0 0x0 0x0 0x0 0x0 0x0 0x0 0x0 0x0 0x0 0x0 0x0 0x0 0x0 0x0 0x0 0x0 0x0";
+
 /// Replies of every step, as they are written by hand.
-const REPLIES: [(StepName, &[u8]); 85] = [
+const REPLIES: [(StepName, &[u8]); 86] = [
     (StepName::Bad, b"refused NoCommand"),
     (StepName::Bad, b"refused BadWords 3"),
     (StepName::Rest, b"ok"),
@@ -69,6 +73,7 @@ const REPLIES: [(StepName, &[u8]); 85] = [
     (StepName::Pause, b"ok"),
     (StepName::Halt, b"ok"),
     (StepName::Reset, b"refused WrongState Unknown"),
+    (StepName::Look, LOOK),
     (StepName::Tick, b"none"),
     (StepName::Tick, b"ok m1.1"),
     (StepName::Idle, b"ok"),
