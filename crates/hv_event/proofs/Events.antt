@@ -1,10 +1,12 @@
 -- Events, their words and their lines.
-use Rattle.std.proofs.Common.{◌≡◌, ◌≢◌, ℕ, eqb, List, [], ◌∷◌, ◌++◌, drop, refl, sym, ap, subst, ◌∙◌, append_assoc, arith}
+use Rattle.std.proofs.Common.{◌≡◌, ◌≢◌, ℕ, zero, suc, ◌-◌, ◌≤◌, length, take, length-drop, eqb, List, [], ◌∷◌, ◌++◌, drop, refl, sym, ap, subst, ◌∙◌, append_assoc, arith}
 use Rattle.std.specs.Prelude.{codes, Result, Ok, Err, IfOk}
 use Rattle.std.specs.List.{AllByRecursion, join_with_byte}
 use Rattle.std.specs.Fmt.{decimal}
 use Rattle.std.proofs.lemmas.Bool.{false≢true}
 use Rattle.std.proofs.lemmas.Fmt.{decimal_injective}
+use Rattle.std.proofs.lemmas.List.{append-nil}
+use Rattle.std.proofs.Math.Seq.{take-nil}
 use Rattle.std.proofs.lemmas.List.Splits.{join_with_byte-slice_split}
 use Rattle.hv_text.specs.Front.{IsFree}
 use Rattle.hv_data.specs.Data.{data_words}
@@ -45,7 +47,7 @@ actor_free d (Terminal n) out h = (apart d 116 out (lower_is_name 116 (omega ari
 
 -- words joined are the first, and each other behind a space
 joined_spaced : (w : List ℕ) (ws : List (List ℕ)) → join_with_byte 32 (w ∷ ws) ≡ w ++ spaced ws
-joined_spaced w [] = simp append_nil
+joined_spaced w [] = sym (append-nil w)
 joined_spaced w (v ∷ ws) = ap (λ (t : List ℕ). w ++ 32 ∷ t) (joined_spaced v ws)
 
 -- words joined to words behind them
@@ -97,19 +99,33 @@ step_begins words e h = record { written = h.0.step; words_are = ap (drop 3) h.1
 pub same_tail : (words rest : List (List ℕ)) (s : Step) (e : Event) → BeginWithStep (drop 3 words) s rest → AreEventWords words e → IsOneStep s e.step rest (arrow ∷ reply_words e.reply)
 same_tail words rest s e begins h = same_step (drop 3 words) s e.step rest (arrow ∷ reply_words e.reply) begins (step_begins words e h)
 
+take_whole : (n : ℕ) (words : List (List ℕ)) → length words ≤ n → take n words ≡ words
+take_whole n [] le = take-nil n
+take_whole zero (w ∷ words) le = absurd (omega arith)
+take_whole (suc n) (w ∷ words) le = ap (λ (ws : List (List ℕ)). w ∷ ws) (take_whole n words (omega arith))
+
+-- what follows the first three words, all of it
+pub behind_three : (words : List (List ℕ)) → take (length words - 3) (drop 3 words) ≡ drop 3 words
+behind_three words = take_whole (length words - 3) (drop 3 words) (omega (arith, length-drop 3 words))
+
 -- words that go on with no step are no event's
-pub no_event_without_step : (words : List (List ℕ)) → BeginWithNoStep (drop 3 words) → (e : Event) → AreEventWords words e → ⊥
-no_event_without_step words none e h = none e.step (arrow ∷ reply_words e.reply) (step_begins words e h)
+pub no_event_without_step : (words tail : List (List ℕ)) → tail ≡ drop 3 words → BeginWithNoStep tail → (e : Event) → AreEventWords words e → ⊥
+no_event_without_step words tail is none e h =
+    none e.step (arrow ∷ reply_words e.reply) (subst (λ (t : List (List ℕ)). BeginWithStep t e.step (arrow ∷ reply_words e.reply)) (sym is) (step_begins words e h))
 
 -- nor those that have no arrow behind their step
-pub no_event_without_arrow : (words rest : List (List ℕ)) (s : Step) → BeginWithStep (drop 3 words) s rest → ((behind : List (List ℕ)) → rest ≢ arrow ∷ behind) → (e : Event) → AreEventWords words e → ⊥
-no_event_without_arrow words rest s begins none e h = none (reply_words e.reply) (same_tail words rest s e begins h).same_rest
+pub no_event_without_arrow : (words tail rest : List (List ℕ)) (s : Step) → tail ≡ drop 3 words → BeginWithStep tail s rest → ((behind : List (List ℕ)) → rest ≢ arrow ∷ behind)
+    → (e : Event) → AreEventWords words e → ⊥
+no_event_without_arrow words tail rest s is begins none e h =
+    none (reply_words e.reply) (same_tail words rest s e (subst (λ (t : List (List ℕ)). BeginWithStep t s rest) is begins) h).same_rest
 
 -- nor those that have no reply of the step behind the arrow
-pub no_event_without_reply : (words back : List (List ℕ)) (s : Step) → BeginWithStep (drop 3 words) s (arrow ∷ back) → ((r : Reply) → AreReplyWords (name_of s) back r → ⊥) → (e : Event) → AreEventWords words e → ⊥
-no_event_without_reply words back s begins none e h =
-    let tail = same_tail words (arrow ∷ back) s e begins h in
-    none e.reply (subst (λ (t : Step). IsReplyOf (name_of t) e.reply) (sym tail.same_step) h.0.reply, cc tail.same_rest)
+pub no_event_without_reply : (words tail rest back : List (List ℕ)) (s : Step) → tail ≡ drop 3 words → BeginWithStep tail s rest → rest ≡ arrow ∷ back → ((r : Reply) → AreReplyWords (name_of s) back r → ⊥)
+    → (e : Event) → AreEventWords words e → ⊥
+no_event_without_reply words tail rest back s is begins arrow_is none e h =
+    let same = same_tail words rest s e (subst (λ (t : List (List ℕ)). BeginWithStep t s rest) is begins) h in
+    let both : arrow ∷ back ≡ arrow ∷ reply_words e.reply = sym arrow_is ∙ same.same_rest in
+    none e.reply (subst (λ (t : Step). IsReplyOf (name_of t) e.reply) (sym same.same_step) h.0.reply, cc both)
 
 abbrev event_of : ℕ → ActorId → ℕ → Step → Reply → Event
 event_of stamp actor index s r = record { actor = actor; index = index; stamp = stamp; step = s; reply = r }

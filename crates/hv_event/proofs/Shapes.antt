@@ -108,6 +108,7 @@ reply_first (reply.Tick answer) = maybe_first (codes "none") ticked_words answer
 reply_first reply.Idle = (codes "ok", [], refl)
 reply_first (reply.Dispatch answer) = given_first number_words answer
 reply_first reply.Preempt = (codes "ok", [], refl)
+reply_first (reply.Look look) = (codes "ok", _, refl)
 reply_first (reply.Leave answer) = (_, [], refl)
 reply_first (reply.Take answer) = (_, [], refl)
 reply_first (reply.Fetch answer) = maybe_first (codes "noexec") fetched_words answer (λ given. (_, _, refl))
@@ -129,7 +130,7 @@ answer_ends (Err why) first behind rest is = not_born (codes "refused") behind (
 over : (guest : Option ByGuest) (r : Reply) (make : Result (Unit {0}) Refusal → Reply) → ((answer : Result (Unit {0}) Refusal) → reply_words (make answer) ≡ given_words no_words answer)
     → (answer : Result (Unit {0}) Refusal) → r ≡ make answer → IsOver guest (arrow ∷ reply_words r)
 over (Some g) r make words answer is = tt
-over None r make words answer is first behind rest e =
+over None r make words answer is = λ first behind rest e.
     answer_ends answer first behind rest (sym (ap (λ (ws : List (List ℕ)). arrow ∷ ws) (ap reply_words is ∙ words answer)) ∙ e)
 
 pub ends_before_arrow : (s : Step) (r : Reply) → IsReplyOf (name_of s) r → EndsBefore s (arrow ∷ reply_words r)
