@@ -4,7 +4,8 @@ use hv_text::{AddressType, Bytes, Stage, push_decimal};
 use std::test::Fail;
 
 /// One word of each kind, as it is written by hand.
-const LINE: &[u8] = b"7 255 0x1f 00ff a,b/ -> /d/e @3.17 Ending Free io Running2 Paused w x m1.a end";
+const LINE: &[u8] =
+    b"7 255 0x1f 00ff a,b/ -> /d/e @3.17 Ending Free io Running2 Paused w x m1.a end";
 
 #[test]
 fn prints_the_words_that_it_reads(rt: HostRuntime) -> Result<(), Fail> {
@@ -37,7 +38,11 @@ fn prints_the_words_that_it_reads(rt: HostRuntime) -> Result<(), Fail> {
 
 #[test]
 fn prints_the_choices_that_it_reads(rt: HostRuntime) -> Result<(), Fail> {
-    let words = split_at_byte(rt.alloc(), b"Ending Free io Running2 Paused w x m1.a end", b' ')?;
+    let words = split_at_byte(
+        rt.alloc(),
+        b"Ending Free io Running2 Paused w x m1.a end",
+        b' ',
+    )?;
     let (stage, words) = take_stage(&words)?;
     let (next, words) = take_next_stage(words)?;
     let (kind, words) = take_address_type(words)?;
@@ -50,7 +55,13 @@ fn prints_the_choices_that_it_reads(rt: HostRuntime) -> Result<(), Fail> {
     assert_eq!(rt; next, None);
     assert_eq!(rt; kind, AddressType::Io);
     assert_eq!(rt; state, State::Running(2));
-    assert_eq!(rt; changes, SignalChanges { line: true, pins: 10 });
+    assert_eq!(rt;
+        changes,
+        SignalChanges {
+            line: true,
+            pins: 10
+        }
+    );
     assert_eq!(rt; words.len(), 1);
     let mut text = Bytes::from_vec(Vec::new(rt.alloc()));
     push_stage(&mut text, stage)?;
@@ -61,6 +72,9 @@ fn prints_the_choices_that_it_reads(rt: HostRuntime) -> Result<(), Fail> {
     push_direction(&mut text, direction)?;
     push_access_kind(&mut text, access)?;
     push_changes(rt.alloc(), &mut text, changes)?;
-    assert_eq!(rt; text.as_slice(), b"EndingFreeioRunning2Pausedwxm1.a".as_slice());
+    assert_eq!(rt;
+        text.as_slice(),
+        b"EndingFreeioRunning2Pausedwxm1.a".as_slice()
+    );
     Ok(())
 }
