@@ -16,6 +16,17 @@ pub struct Logs {
     pub three: Vec<Event>,
 }
 
+/// Puts an event at the end of a log.
+fn push_to(log: &mut Vec<Event>, event: Event) -> Result<(), AllocError>
+    ensures { OnOk result (log.new.items ≡ log.old.items ++ event ∷ []) }
+{
+    log.push(event)?;
+    Ok(())
+}
+
+/// Lets go of an event of no terminal.
+fn let_go(_event: Event) {}
+
 /// Puts an event at the end of its terminal's log.
 fn push_event(logs: &mut Logs, event: Event) -> Result<(), AllocError>
     ensures zero { OnOk result (logs.new.zero.items ≡ logs.old.zero.items ++ filter (λ e. is_terminal 0 e.actor) (event ∷ [])) }
@@ -23,19 +34,20 @@ fn push_event(logs: &mut Logs, event: Event) -> Result<(), AllocError>
     ensures two { OnOk result (logs.new.two.items ≡ logs.old.two.items ++ filter (λ e. is_terminal 2 e.actor) (event ∷ [])) }
     ensures three { OnOk result (logs.new.three.items ≡ logs.old.three.items ++ filter (λ e. is_terminal 3 e.actor) (event ∷ [])) }
 {
-    let ActorId::Terminal(number) = event.actor else {
-        return Ok(());
-    };
-    if number == 0 {
-        logs.zero.push(event)?;
-    } else if number == 1 {
-        logs.one.push(event)?;
-    } else if number == 2 {
-        logs.two.push(event)?;
-    } else if number == 3 {
-        logs.three.push(event)?;
+    match event.actor {
+        ActorId::Terminal(0) => push_to(&mut logs.zero, event),
+        ActorId::Terminal(1) => push_to(&mut logs.one, event),
+        ActorId::Terminal(2) => push_to(&mut logs.two, event),
+        ActorId::Terminal(3) => push_to(&mut logs.three, event),
+        ActorId::Terminal(_) => {
+            let_go(event);
+            Ok(())
+        }
+        ActorId::Hart(_) => {
+            let_go(event);
+            Ok(())
+        }
     }
-    Ok(())
 }
 
 /// Puts the events of entries at the ends of the logs.
