@@ -3,6 +3,7 @@ use super::*;
 use hv_data::{WordRefusal, split_at_byte};
 use hv_name::StepName;
 use hv_text::Bytes;
+use std::alloc::Global;
 use std::test::Fail;
 
 /// A VCPU that was never added.
@@ -147,18 +148,26 @@ const OTHERS: [(StepName, &[u8]); 41] = [
     (StepName::Pin, b"100 slept"),
 ];
 
+/// Whether a reply is printed as this text.
+fn is_printed_as(alloc: Global, reply: &Reply, text: &[u8]) -> Result<bool, Fail> {
+    let mut printed = Bytes::from_vec(Vec::new(alloc));
+    print_reply(alloc, &mut printed, reply)?;
+    Ok(printed.as_slice() == text)
+}
+
+/// Whether a text is read as a reply that is printed as this text.
+fn is_read_back(alloc: Global, name: StepName, text: &[u8]) -> Result<bool, Fail> {
+    let words = split_at_byte(alloc, text, b' ')?;
+    match read_reply(alloc, name, &words) {
+        Ok(reply) => is_printed_as(alloc, &reply, text),
+        Err(_) => Ok(false),
+    }
+}
+
 #[test]
 fn reads_what_it_prints(rt: HostRuntime) -> Result<(), Fail> {
     for (name, text) in REPLIES {
-        let words = split_at_byte(rt.alloc(), text, b' ')?;
-        match read_reply(rt.alloc(), name, &words) {
-            Ok(reply) => {
-                let mut printed = Bytes::from_vec(Vec::new(rt.alloc()));
-                print_reply(rt.alloc(), &mut printed, &reply)?;
-                assert_eq!(rt; printed.as_slice(), text);
-            }
-            Err(_) => assert!(rt; false, "text {text:?}"),
-        }
+        assert!(rt; is_read_back(rt.alloc(), name, text)?, "text {text:?}");
     }
     Ok(())
 }
