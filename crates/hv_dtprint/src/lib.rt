@@ -5,6 +5,6 @@ mod print;
 mod print_len;
 mod print_line;
 #[cfg(test)]
-mod tests;
+mod tests_printing;
 
 pub use print::print_root;
