@@ -2,28 +2,37 @@
 ghost use Rattle.hv_fpart.specs.Part.{IsFilesStep};
 
 use super::*;
-use hv_event::{ActorId, Asm, Cat, Dts, Event, Ls, Mkdir, Rm, Write, print_event};
+use hv_answer::print_reply;
+use hv_event::{Asm, Cat, Dts, Ls, Mkdir, Rm, Write};
+use hv_step::print_step;
 use std::test::Fail;
 
 fn path_of(alloc: Global, text: &str) -> Result<Path, Fail> {
     Ok(Path::read(alloc, text.as_bytes())?)
 }
 
-/// The event of a step that the files decide, as its line.
+/// A step and its reply, as an event's line has them.
+fn line_of(alloc: Global, step: &Step, reply: &Reply) -> Result<Bytes, Fail> {
+    let mut line = Bytes::from_vec(Vec::new(alloc));
+    print_step(alloc, &mut line, step)?;
+    line.append(b" -> ")?;
+    print_reply(alloc, &mut line, reply)?;
+    Ok(line)
+}
+
+/// Makes a step that the files decide, and shows it with its reply.
+fn answer_to(alloc: Global, files: &mut FileTree, step: &Step) -> Result<Bytes, Fail>
+    requires { IsFilesStep step.now }
+{
+    let reply = files_part(alloc, files, step)?;
+    line_of(alloc, step, &reply)
+}
+
+/// Makes a step and lets go of it.
 fn made(alloc: Global, files: &mut FileTree, step: Step) -> Result<Bytes, Fail>
     requires { IsFilesStep step }
 {
-    let reply = files_part(alloc, files, &step)?;
-    let mut line = Bytes::from_vec(Vec::new(alloc));
-    let event = Event {
-        actor: ActorId::Terminal(0),
-        index: 1,
-        stamp: 1,
-        step,
-        reply,
-    };
-    print_event(alloc, &mut line, &event)?;
-    Ok(line)
+    answer_to(alloc, files, &step)
 }
 
 /// Makes a step by its word, its first path, and the second path or the bytes.
@@ -98,11 +107,9 @@ const STEPS: [(&str, &str, &str, &str); 19] = [
 #[test]
 fn makes_each_step(rt: HostRuntime) -> Result<(), Fail> {
     let mut files = FileTree::new(rt.alloc())?;
-    for (word, first, second, shown) in STEPS {
+    for (word, first, second, wanted) in STEPS {
         let line = call(rt.alloc(), &mut files, word, first, second)?;
-        let mut wanted = Bytes::from_vec(b"1 t0 1 ".to_vec(rt.alloc())?);
-        wanted.append(shown.as_bytes())?;
-        assert_eq!(rt; line.as_slice(), wanted.as_slice());
+        assert_eq!(rt; line.as_slice(), wanted.as_bytes());
     }
     Ok(())
 }
