@@ -1,6 +1,6 @@
 //! The lines of events, printed and read.
 use super::*;
-use hv_text::{Bytes, Path};
+use hv_text::Bytes;
 use std::alloc::Global;
 use std::test::Fail;
 
@@ -118,22 +118,6 @@ fn is_read_back(alloc: Global, line: &[u8]) -> Result<bool, Fail> {
         Ok(event) => is_printed_as(alloc, &event, line),
         Err(_) => Ok(false),
     }
-}
-
-#[test]
-fn prints_the_line_of_a_file_that_was_read(rt: HostRuntime) -> Result<(), Fail> {
-    let path = Path::read(rt.alloc(), b"/hello")?;
-    let bytes = Bytes::from_vec(b"hi\n".to_vec(rt.alloc())?);
-    let event = Event {
-        actor: ActorId::Terminal(0),
-        index: 1,
-        stamp: 1,
-        step: Step::Cat(Cat { path }),
-        reply: Reply::Cat(Ok(bytes)),
-    };
-    let is_its_line = is_printed_as(rt.alloc(), &event, b"1 t0 1 cat /hello -> ok 68690a");
-    assert!(rt; is_its_line?);
-    Ok(())
 }
 
 #[test]
