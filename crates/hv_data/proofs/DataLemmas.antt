@@ -25,7 +25,7 @@ use Rattle.hv_data.specs.declared.state.State.{State}
 use Rattle.hv_data.specs.declared.state.State.TheVariants as state
 use Rattle.hv_data.specs.declared.state.StateName.{StateName}
 use Rattle.hv_data.specs.declared.state.StateName.TheVariants as name
-use Rattle.hv_data.specs.Text.{generation_text, stage_text, next_stage_text, address_type_text, state_text, state_name_text, direction_text, access_kind_text, changes_text, bit_text}
+use Rattle.hv_data.specs.Text.{address_text, generation_text, stage_text, next_stage_text, address_type_text, state_text, state_name_text, direction_text, access_kind_text, changes_text, bit_text}
 use Rattle.hv_data.specs.Written.{IsShown, IsGeneration, IsState, AreChanges}
 use Rattle.hv_data.specs.Data.{Datum, Number, Number8, Address, Hex, Names, Name, PathOf, Born, At, To, TypeOf, StateOf, Named, Towards, Accessed, Changed}
 use Rattle.hv_data.specs.Data.{kind_of, datum_text, IsDatum, AreData, data_words, kinds_of, IsOneFront, HaveNoSpace}
@@ -184,15 +184,19 @@ free_by_test d (b ∷ bs) e =
     let both = free_head d b (eqb b d) (list_all (λ x. not (eqb x d)) bs) refl e in
     (both.0, free_by_test d bs both.1)
 
-hex_digits_free : (word : List ℕ) → AllDigits 16 word → IsFree 32 word
-hex_digits_free [] h = tt
-hex_digits_free (b ∷ word) h = ((λ e. no_digit (subst (λ (x : ℕ). digit_value x < 16) e h.0)), hex_digits_free word h.1)
-  where
-    no_digit : digit_value 32 < 16 → ⊥
-    no_digit lt = omega (arith, lt)
+hex_digits_free : (d : ℕ) (word : List ℕ) → (digit_value d < 16 → ⊥) → AllDigits 16 word → IsFree d word
+hex_digits_free d [] none h = tt
+hex_digits_free d (b ∷ word) none h = ((λ e. none (subst (λ (x : ℕ). digit_value x < 16) e h.0)), hex_digits_free d word none h.1)
 
-hex_number_free : (n : ℕ) → n < 2 ^ 64 → IsFree 32 (digits 16 false n)
-hex_number_free n lt = hex_digits_free (digits 16 false n) (digits_is_IsNumeral 16 false (omega arith) (omega arith) n (omega arith)).0.1
+hex_number_free : (d n : ℕ) → (digit_value d < 16 → ⊥) → n < 2 ^ 64 → IsFree d (digits 16 false n)
+hex_number_free d n none lt = hex_digits_free d (digits 16 false n) none (digits_is_IsNumeral 16 false (omega arith) (omega arith) n (omega arith)).0.1
+
+no_space_digit : digit_value 32 < 16 → ⊥
+no_space_digit lt = omega (arith, lt)
+
+-- a byte that is no digit and no `x` stands in no address
+pub address_free : (d n : ℕ) → (digit_value d < 16 → ⊥) → 48 ≢ d → 120 ≢ d → n < 2 ^ 64 → IsFree d (address_text n)
+address_free d n none zero x lt = (zero, (x, hex_number_free d n none lt))
 
 shown_free : (word : List ℕ) → AllByRecursion IsShown word → IsFree 32 word
 shown_free [] h = tt
@@ -244,13 +248,13 @@ bit_free true = free_by_test 32 (codes "m1.") refl
 bit_free false = free_by_test 32 (codes "m0.") refl
 
 changes_free : (c : SignalChanges) → AreChanges c → IsFree 32 (changes_text c)
-changes_free c h = free_append 32 (codes "m" ++ bit_text c.line ++ codes ".") (digits 16 false c.pins) (bit_free c.line) (hex_number_free c.pins (omega arith))
+changes_free c h = free_append 32 (codes "m" ++ bit_text c.line ++ codes ".") (digits 16 false c.pins) (bit_free c.line) (hex_number_free 32 c.pins no_space_digit (omega arith))
 
 -- the word of a written datum has no space
 pub datum_free : (d : Datum) → IsDatum d → IsFree 32 (datum_text d)
 datum_free (Number n) h = decimal_free 32 n space_foreign h
 datum_free (Number8 n) h = decimal_free 32 n space_foreign (omega arith)
-datum_free (Address n) h = free_append 32 (codes "0x") (digits 16 false n) (free_by_test 32 (codes "0x") refl) (hex_number_free n h)
+datum_free (Address n) h = address_free 32 n no_space_digit (λ e. omega (arith, e)) (λ e. omega (arith, e)) h
 datum_free (Hex bytes) h = hex_free 32 bytes space_foreign h
 datum_free (Names names) h = names_free 32 names space_foreign (λ e. omega (arith, e)) h
 datum_free (Name word) h = shown_free word h.1

@@ -47,6 +47,9 @@ space_foreign = foreign 32 (inl (omega arith))
 pub comma_foreign : IsForeign 44
 comma_foreign = foreign 44 (inl (omega arith))
 
+pub colon_foreign : IsForeign 58
+colon_foreign = foreign 58 (inr (omega arith, omega arith))
+
 pub greater_foreign : IsForeign 62
 greater_foreign = foreign 62 (inr (omega arith, omega arith))
 

@@ -1,5 +1,5 @@
 -- Data of all kinds, and lists of them.
-use Rattle.std.specs.Prelude.{◌≡◌, ℕ, List, map, Option}
+use Rattle.std.specs.Prelude.{◌≡◌, ℕ, List, ◌++◌, map, Option}
 use Rattle.std.specs.List.{AllByRecursion}
 use Rattle.std.specs.Fmt.{decimal}
 use Rattle.hv_text.specs.Front.{IsFree}
@@ -130,3 +130,7 @@ pub record IsOneFront (one other : List Datum) (rest behind : List (List ℕ)) :
 -- No word of data has a space.
 abbrev pub HaveNoSpace : List (List ℕ) → Type 0
 HaveNoSpace words = AllByRecursion (IsFree 32) words
+
+-- Words begin with those of these written data, and these follow.
+abbrev pub HaveData : List (List ℕ) → List Datum → List (List ℕ) → Type 0
+HaveData words ds rest = AreData ds × (words ≡ data_words ds ++ rest)
