@@ -14,6 +14,10 @@ use Rattle.hv_data.specs.Reading.{Because, BeginWith}
 use Rattle.hv_data.specs.Data.{Datum, Number, Number8, Address, Hex, Names, StateOf, Changed, kinds_of, AreData, data_words, HaveNoSpace}
 use Rattle.hv_data.proofs.DataLemmas.{same_data, data_free, free_by_test}
 use Rattle.hv_text.specs.Front.{IsFree}
+use Rattle.hv_listing.specs.declared.guest.ListedGuest.{ListedGuest}
+use Rattle.hv_listing.specs.declared.window.ListedWindow.{ListedWindow}
+use Rattle.hv_listing.specs.Listing.{guests_text, windows_text, AreGuests, AreWindows}
+use Rattle.hv_listing.proofs.Entry.{same_guests, same_windows, guests_free, windows_free}
 use Rattle.hv_name.specs.declared.name.StepName.{StepName}
 use Rattle.hv_name.specs.StepName.{is_word}
 use Rattle.hv_refusal.specs.declared.refusal.Refusal.{Refusal}
@@ -27,7 +31,7 @@ use Rattle.hv_answer.specs.declared.reply.Moved.{Moved}
 use Rattle.hv_answer.specs.declared.reply.Sampled.{Sampled}
 use Rattle.hv_answer.specs.declared.reply.Pins.{Pins}
 use Rattle.hv_answer.specs.declared.reply.Pinned.{Pinned}
-use Rattle.hv_answer.specs.Payload.{no_words, bytes_words, names_words, number_words, changes_words, generation_words, state_words, outcome_words, fetched_words}
+use Rattle.hv_answer.specs.Payload.{no_words, bytes_words, names_words, guests_words, windows_words, number_words, changes_words, generation_words, state_words, outcome_words, fetched_words}
 use Rattle.hv_answer.specs.Payload.{accessed_words, harts_words, moved_words, sampled_words, pins_text, woken_text, pinned_words, ticked_words, maybe_words}
 use Rattle.hv_answer.specs.Payload.{IsNumber32, IsBorn, IsOutcome, IsFetched, IsAccessed, AreHarts, IsMoved, IsSampled, IsMaybe}
 use Rattle.hv_answer.specs.Refused.{MayRefuse}
@@ -104,6 +108,16 @@ bytes_law = data_law (List ℕ) AreBytes (λ b. Hex b ∷ []) (λ x y. refl) (λ
 
 pub names_law : Law (List (List ℕ)) AreListedNames names_words
 names_law = data_law (List (List ℕ)) AreListedNames (λ ns. Names ns ∷ []) (λ x y. refl) (λ x h. (h, tt)) (λ x y e. cc e)
+
+-- the law of what is one word
+word_law : (A : Type 0) (good : A → Type 0) (shown : A → List ℕ) → ((x y : A) → good x → good y → shown x ≡ shown y → x ≡ y) → ((x : A) → good x → IsFree 32 (shown x)) → Law A good (λ x. shown x ∷ [])
+word_law A good shown same free = record { same = λ x y h k e. same x y h k (cc e); free = λ x h. (free x h, tt) }
+
+pub guests_law : Law (List ListedGuest) AreGuests guests_words
+guests_law = word_law (List ListedGuest) AreGuests guests_text same_guests guests_free
+
+pub windows_law : Law (List ListedWindow) AreWindows windows_words
+windows_law = word_law (List ListedWindow) AreWindows windows_text same_windows windows_free
 
 pub number_law : Law ℕ IsNumber number_words
 number_law = data_law ℕ IsNumber (λ n. Number n ∷ []) (λ x y. refl) (λ x h. (h, tt)) (λ x y e. cc e)

@@ -8,6 +8,9 @@ use Rattle.hv_data.specs.Text.{address_text}
 use Rattle.hv_data.specs.Written.{IsNumber, AreBytes, AreListedNames, AreChanges, IsState, IsAny}
 use Rattle.hv_data.specs.Data.{HaveNoSpace}
 use Rattle.hv_data.proofs.DataLemmas.{free_by_test}
+use Rattle.hv_listing.specs.declared.guest.ListedGuest.{ListedGuest}
+use Rattle.hv_listing.specs.declared.window.ListedWindow.{ListedWindow}
+use Rattle.hv_listing.specs.Listing.{AreGuests, AreWindows}
 use Rattle.hv_look.specs.declared.look.Look.{Look}
 use Rattle.hv_look.specs.Look.{IsLook, look_words}
 use Rattle.hv_look.proofs.Looks.{same_look, look_free}
@@ -23,12 +26,12 @@ use Rattle.hv_answer.specs.declared.reply.Sampled.{Sampled}
 use Rattle.hv_answer.specs.declared.reply.Pinned.{Pinned}
 use Rattle.hv_answer.specs.declared.reply.Reply.{Reply}
 use Rattle.hv_answer.specs.declared.reply.Reply.TheVariants as reply
-use Rattle.hv_answer.specs.Payload.{no_words, bytes_words, names_words, number_words, changes_words, generation_words, state_words, outcome_words, fetched_words}
+use Rattle.hv_answer.specs.Payload.{no_words, bytes_words, names_words, guests_words, windows_words, number_words, changes_words, generation_words, state_words, outcome_words, fetched_words}
 use Rattle.hv_answer.specs.Payload.{accessed_words, moved_words, sampled_words, pinned_words, ticked_words, maybe_words}
 use Rattle.hv_answer.specs.Payload.{IsNumber32, IsBorn, IsFetched, IsAccessed, IsMoved, IsSampled, IsMaybe}
 use Rattle.hv_answer.specs.Refused.{MayRefuse}
 use Rattle.hv_answer.specs.Reply.{refused_words, given_words, IsAnswer, reply_words, IsMade, IsReplyOf}
-use Rattle.hv_answer.proofs.Laws.{Law, nothing_law, bytes_law, names_law, number_law, slice_law, changes_law, state_law, generation_law, ticked_law}
+use Rattle.hv_answer.proofs.Laws.{Law, nothing_law, bytes_law, names_law, guests_law, windows_law, number_law, slice_law, changes_law, state_law, generation_law, ticked_law}
 use Rattle.hv_answer.proofs.Laws.{accessed_law, moved_law, sampled_law, fetched_law, pinned_law, maybe_law, refused_law, given_law}
 
 -- replies of one form with the same words are one, and their words have no space
@@ -67,6 +70,12 @@ look_law = record {
   free = λ x h. (free_by_test 32 (codes "ok") refl, look_free x h);
 }
 
+guests_reply_law : Law (List ListedGuest) AreGuests (λ g. codes "ok" ∷ guests_words g)
+guests_reply_law = record {
+  same = λ x y h k e. guests_law.same x y h k (cc e);
+  free = λ x h. (free_by_test 32 (codes "ok") refl, guests_law.free x h);
+}
+
 -- the words of a step's replies
 plain : (n : StepName) → IsPlain (IsReplyOf n)
 plain name.Bad = made Refusal (MayRefuse name.Bad) refused_words reply.Bad (λ x. refl) (refused_law name.Bad)
@@ -79,10 +88,12 @@ plain name.Mkdir = made (Result (Unit {0}) Refusal) (IsAnswer IsAny name.Mkdir) 
 plain name.Rm = made (Result (Unit {0}) Refusal) (IsAnswer IsAny name.Rm) (given_words no_words) reply.Rm (λ x. refl) (given_law (Unit {0}) IsAny no_words name.Rm nothing_law)
 plain name.Write = made (Result (Unit {0}) Refusal) (IsAnswer IsAny name.Write) (given_words no_words) reply.Write (λ x. refl) (given_law (Unit {0}) IsAny no_words name.Write nothing_law)
 plain name.Asm = made (Result ℕ Refusal) (IsAnswer IsNumber name.Asm) (given_words number_words) reply.Asm (λ x. refl) (given_law ℕ IsNumber number_words name.Asm number_law)
+plain name.Guests = made (List ListedGuest) AreGuests (λ g. codes "ok" ∷ guests_words g) reply.Guests (λ x. refl) guests_reply_law
 plain name.Name = made (Result Generation Refusal) (IsAnswer IsBorn name.Name) (given_words generation_words) reply.Name (λ x. refl) (given_law Generation IsBorn generation_words name.Name generation_law)
 plain name.Stage = made (Result (Unit {0}) Refusal) (IsAnswer IsAny name.Stage) (given_words no_words) reply.Stage (λ x. refl) (given_law (Unit {0}) IsAny no_words name.Stage nothing_law)
 plain name.Add = made (Result SignalChanges Refusal) (IsAnswer AreChanges name.Add) (given_words changes_words) reply.Add (λ x. refl) (given_law SignalChanges AreChanges changes_words name.Add changes_law)
 plain name.Drop = made (Result SignalChanges Refusal) (IsAnswer AreChanges name.Drop) (given_words changes_words) reply.Drop (λ x. refl) (given_law SignalChanges AreChanges changes_words name.Drop changes_law)
+plain name.Regions = made (Result (List ListedWindow) Refusal) (IsAnswer AreWindows name.Regions) (given_words windows_words) reply.Regions (λ x. refl) (given_law (List ListedWindow) AreWindows windows_words name.Regions windows_law)
 plain name.Load = made (Result ℕ Refusal) (IsAnswer IsNumber name.Load) (given_words number_words) reply.Load (λ x. refl) (given_law ℕ IsNumber number_words name.Load number_law)
 plain name.Mem = made (Result (List ℕ) Refusal) (IsAnswer AreBytes name.Mem) (given_words bytes_words) reply.Mem (λ x. refl) (given_law (List ℕ) AreBytes bytes_words name.Mem bytes_law)
 plain name.Devreset = made (Result SignalChanges Refusal) (IsAnswer AreChanges name.Devreset) (given_words changes_words) reply.Devreset (λ x. refl) (given_law SignalChanges AreChanges changes_words name.Devreset changes_law)
@@ -108,7 +119,6 @@ plain name.Fault = made ℕ IsNumber number_words reply.Fault (λ x. refl) numbe
 plain name.Balance = made (Option Moved) (IsMaybe IsMoved) (maybe_words (codes "none") moved_words) reply.Balance (λ x. refl) (maybe_law Moved IsMoved moved_words (codes "none") refl (λ x. omega arith) moved_law)
 plain name.Sample = made (Option Sampled) (IsMaybe IsSampled) (maybe_words (codes "gone") sampled_words) reply.Sample (λ x. refl) (maybe_law Sampled IsSampled sampled_words (codes "gone") refl (λ x. omega arith) sampled_law)
 plain name.Pin = made (Option Pinned) (IsMaybe IsAny) (maybe_words (codes "gone") pinned_words) reply.Pin (λ x. refl) (maybe_law Pinned IsAny pinned_words (codes "gone") refl (λ x. omega arith) pinned_law)
-plain _ = record { same = λ r q h k e. absurd h; free = λ r h. absurd h }
 
 -- two replies of one step with the same words are one
 pub same_reply : (n : StepName) (r q : Reply) → IsReplyOf n r → IsReplyOf n q → reply_words r ≡ reply_words q → r ≡ q

@@ -6,6 +6,9 @@ use Rattle.hv_data.specs.declared.generation.Generation.{Generation}
 use Rattle.hv_data.specs.declared.state.State.{State}
 use Rattle.hv_data.specs.Text.{address_text, hex_text, names_text, state_text, bit_text, changes_text}
 use Rattle.hv_data.specs.Written.{IsNumber, IsNumber8, AreChanges}
+use Rattle.hv_listing.specs.declared.guest.ListedGuest.{ListedGuest}
+use Rattle.hv_listing.specs.declared.window.ListedWindow.{ListedWindow}
+use Rattle.hv_listing.specs.Listing.{guests_text, windows_text}
 use Rattle.hv_answer.specs.declared.reply.Outcome.{Outcome}
 use Rattle.hv_answer.specs.declared.reply.Outcome.TheVariants as outcome
 use Rattle.hv_answer.specs.declared.reply.Fetched.{Fetched}
@@ -26,6 +29,14 @@ bytes_words bytes = hex_text bytes ∷ []
 -- The word of listed names.
 abbrev pub names_words : List (List ℕ) → List (List ℕ)
 names_words names = names_text names ∷ []
+
+-- The word of listed guests.
+abbrev pub guests_words : List ListedGuest → List (List ℕ)
+guests_words guests = guests_text guests ∷ []
+
+-- The word of listed windows.
+abbrev pub windows_words : List ListedWindow → List (List ℕ)
+windows_words windows = windows_text windows ∷ []
 
 -- The word of a number.
 abbrev pub number_words : ℕ → List (List ℕ)

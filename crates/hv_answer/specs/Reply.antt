@@ -2,6 +2,7 @@
 use Rattle.std.specs.Prelude.{◌≡◌, ℕ, List, [], ◌∷◌, codes, Result, Ok, Err}
 use Rattle.std.specs.List.{join_with_byte}
 use Rattle.hv_data.specs.Written.{IsNumber, AreBytes, AreListedNames, IsState, AreChanges, IsAny}
+use Rattle.hv_listing.specs.Listing.{AreGuests, AreWindows}
 use Rattle.hv_look.specs.Look.{IsLook, look_words}
 use Rattle.hv_name.specs.declared.name.StepName.{StepName}
 use Rattle.hv_name.specs.declared.name.StepName.TheVariants as name
@@ -9,7 +10,7 @@ use Rattle.hv_refusal.specs.declared.refusal.Refusal.{Refusal}
 use Rattle.hv_refusal.specs.Refusal.{refusal_words}
 use Rattle.hv_answer.specs.declared.reply.Reply.{Reply}
 use Rattle.hv_answer.specs.declared.reply.Reply.TheVariants as reply
-use Rattle.hv_answer.specs.Payload.{no_words, bytes_words, names_words, number_words, changes_words, generation_words, state_words, fetched_words, accessed_words}
+use Rattle.hv_answer.specs.Payload.{no_words, bytes_words, names_words, guests_words, windows_words, number_words, changes_words, generation_words, state_words, fetched_words, accessed_words}
 use Rattle.hv_answer.specs.Payload.{moved_words, sampled_words, pinned_words, ticked_words, maybe_words}
 use Rattle.hv_answer.specs.Payload.{IsNumber32, IsBorn, IsFetched, IsAccessed, IsMoved, IsSampled, IsMaybe}
 use Rattle.hv_answer.specs.Refused.{MayRefuse}
@@ -40,10 +41,12 @@ reply_words (reply.Mkdir answer) = given_words no_words answer
 reply_words (reply.Rm answer) = given_words no_words answer
 reply_words (reply.Write answer) = given_words no_words answer
 reply_words (reply.Asm answer) = given_words number_words answer
+reply_words (reply.Guests guests) = codes "ok" ∷ guests_words guests
 reply_words (reply.Name answer) = given_words generation_words answer
 reply_words (reply.Stage answer) = given_words no_words answer
 reply_words (reply.Add answer) = given_words changes_words answer
 reply_words (reply.Drop answer) = given_words changes_words answer
+reply_words (reply.Regions answer) = given_words windows_words answer
 reply_words (reply.Load answer) = given_words number_words answer
 reply_words (reply.Mem answer) = given_words bytes_words answer
 reply_words (reply.Devreset answer) = given_words changes_words answer
@@ -90,10 +93,12 @@ IsReplyOf name.Mkdir r = IsMade reply.Mkdir (IsAnswer IsAny name.Mkdir) r
 IsReplyOf name.Rm r = IsMade reply.Rm (IsAnswer IsAny name.Rm) r
 IsReplyOf name.Write r = IsMade reply.Write (IsAnswer IsAny name.Write) r
 IsReplyOf name.Asm r = IsMade reply.Asm (IsAnswer IsNumber name.Asm) r
+IsReplyOf name.Guests r = IsMade reply.Guests AreGuests r
 IsReplyOf name.Name r = IsMade reply.Name (IsAnswer IsBorn name.Name) r
 IsReplyOf name.Stage r = IsMade reply.Stage (IsAnswer IsAny name.Stage) r
 IsReplyOf name.Add r = IsMade reply.Add (IsAnswer AreChanges name.Add) r
 IsReplyOf name.Drop r = IsMade reply.Drop (IsAnswer AreChanges name.Drop) r
+IsReplyOf name.Regions r = IsMade reply.Regions (IsAnswer AreWindows name.Regions) r
 IsReplyOf name.Load r = IsMade reply.Load (IsAnswer IsNumber name.Load) r
 IsReplyOf name.Mem r = IsMade reply.Mem (IsAnswer AreBytes name.Mem) r
 IsReplyOf name.Devreset r = IsMade reply.Devreset (IsAnswer AreChanges name.Devreset) r
@@ -119,4 +124,3 @@ IsReplyOf name.Fault r = IsMade reply.Fault IsNumber r
 IsReplyOf name.Balance r = IsMade reply.Balance (IsMaybe IsMoved) r
 IsReplyOf name.Sample r = IsMade reply.Sample (IsMaybe IsSampled) r
 IsReplyOf name.Pin r = IsMade reply.Pin (IsMaybe IsAny) r
-IsReplyOf _ r = ⊥

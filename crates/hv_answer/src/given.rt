@@ -2,7 +2,8 @@
 ghost use Rattle.std.specs.Prelude.{◌≡◌, ◌≢◌, ◌∷◌, [], List, ℕ, IsTrue, ◌↔◌, MatchOption, MatchResult};
 ghost use Rattle.hv_data.specs.Reading.{Because};
 ghost use Rattle.hv_data.specs.Written.{IsNumber, AreBytes, AreListedNames, AreChanges, IsAny};
-ghost use Rattle.hv_answer.specs.Payload.{no_words, bytes_words, names_words, number_words, changes_words, generation_words, IsNumber32, IsBorn};
+ghost use Rattle.hv_listing.specs.Listing.{AreGuests, AreWindows};
+ghost use Rattle.hv_answer.specs.Payload.{no_words, bytes_words, names_words, guests_words, windows_words, number_words, changes_words, generation_words, IsNumber32, IsBorn};
 ghost use Rattle.hv_answer.specs.Reply.{given_words, IsAnswer};
 ghost use Rattle.hv_answer.specs.Reading.{ReadsWords};
 
@@ -11,6 +12,7 @@ use hv_data::{
     Generation, SignalChanges, WordRefusal, take_bytes, take_changes, take_names, take_number,
     take_number8,
 };
+use hv_listing::{GuestList, WindowList, guests_word, windows_word};
 use hv_name::StepName;
 use hv_refusal::Refusal;
 use hv_text::{Bytes, Strings};
@@ -72,6 +74,26 @@ pub fn names_alone(alloc: Global, words: &[Bytes]) -> Result<Strings, WordRefusa
         return Err(WordRefusal::BadWord);
     }
     Ok(given)
+}
+
+/// The listed guests of words.
+pub fn guests_alone(alloc: Global, words: &[Bytes]) -> Result<GuestList, WordRefusal>
+    ensures { ReadsWords AreGuests guests_words words.now result }
+{
+    let Some(word) = one_word(words) else {
+        return Err(WordRefusal::BadWord);
+    };
+    guests_word(alloc, word)
+}
+
+/// The listed windows of words.
+fn windows_alone(alloc: Global, words: &[Bytes]) -> Result<WindowList, WordRefusal>
+    ensures { ReadsWords AreWindows windows_words words.now result }
+{
+    let Some(word) = one_word(words) else {
+        return Err(WordRefusal::BadWord);
+    };
+    windows_word(alloc, word)
 }
 
 /// The number of words.
@@ -160,6 +182,23 @@ pub fn given_names(
 {
     if let Some(given) = behind_word(words, b"ok") {
         return Ok(Ok(names_alone(alloc, given)?));
+    }
+    let Some(why) = behind_word(words, b"refused") else {
+        return Err(WordRefusal::BadWord);
+    };
+    Ok(Err(refusal_of(alloc, name, why)?))
+}
+
+/// The answer of a step that gives windows.
+pub fn given_windows(
+    alloc: Global,
+    name: StepName,
+    words: &[Bytes],
+) -> Result<Result<WindowList, Refusal>, WordRefusal>
+    ensures { ReadsWords (IsAnswer AreWindows name) (given_words windows_words) words.now result }
+{
+    if let Some(given) = behind_word(words, b"ok") {
+        return Ok(Ok(windows_alone(alloc, given)?));
     }
     let Some(why) = behind_word(words, b"refused") else {
         return Err(WordRefusal::BadWord);

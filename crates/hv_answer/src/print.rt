@@ -2,7 +2,7 @@
 ghost use Rattle.std.specs.Prelude.{◌≡◌, ◌++◌, OnOk, OnErr, codes};
 ghost use Rattle.std.specs.List.{join_with_byte};
 ghost use Rattle.hv_data.specs.Text.{bit_text};
-ghost use Rattle.hv_answer.specs.Payload.{no_words, bytes_words, names_words, number_words, changes_words, generation_words, fetched_words, accessed_words};
+ghost use Rattle.hv_answer.specs.Payload.{no_words, bytes_words, names_words, windows_words, number_words, changes_words, generation_words, fetched_words, accessed_words};
 ghost use Rattle.hv_answer.specs.Payload.{moved_words, sampled_words, pins_text, pinned_words, ticked_words, maybe_words, outcome_words};
 ghost use Rattle.hv_answer.specs.Reply.{refused_words, given_words, reply_text};
 
@@ -10,6 +10,7 @@ use crate::reply::{Accessed, Fetched, Moved, Outcome, Pinned, Pins, Reply, Sampl
 use hv_data::{
     Generation, SignalChanges, push_address, push_bytes, push_changes, push_names, push_state,
 };
+use hv_listing::{WindowList, print_guests, print_windows};
 use hv_look::print_look;
 use hv_refusal::{Refusal, print_refusal};
 use hv_text::{Bytes, Strings, push_decimal};
@@ -58,6 +59,22 @@ fn push_given_names(
         Ok(given) => {
             to.append(b"ok ")?;
             push_names(to, given)
+        }
+        Err(refusal) => push_refused(alloc, to, refusal),
+    }
+}
+
+fn push_given_windows(
+    alloc: Global,
+    to: &mut Bytes,
+    answer: &Result<WindowList, Refusal>,
+) -> Result<(), AllocError>
+    ensures { OnOk result (to.new ≡ to.old ++ join_with_byte 32 (given_words windows_words answer.now)) }
+{
+    match answer {
+        Ok(given) => {
+            to.append(b"ok ")?;
+            print_windows(alloc, to, given)
         }
         Err(refusal) => push_refused(alloc, to, refusal),
     }
@@ -268,10 +285,15 @@ fn push_reply(alloc: Global, to: &mut Bytes, reply: &Reply) -> Result<(), AllocE
         Reply::Rm(answer) => push_done(alloc, to, answer),
         Reply::Write(answer) => push_done(alloc, to, answer),
         Reply::Asm(answer) => push_given_number(alloc, to, answer),
+        Reply::Guests(guests) => {
+            to.append(b"ok ")?;
+            print_guests(alloc, to, guests)
+        }
         Reply::Name(answer) => push_given_generation(alloc, to, answer),
         Reply::Stage(answer) => push_done(alloc, to, answer),
         Reply::Add(answer) => push_given_changes(alloc, to, answer),
         Reply::Drop(answer) => push_given_changes(alloc, to, answer),
+        Reply::Regions(answer) => push_given_windows(alloc, to, answer),
         Reply::Load(answer) => push_given_number(alloc, to, answer),
         Reply::Mem(answer) => push_given_bytes(alloc, to, answer),
         Reply::Devreset(answer) => push_given_changes(alloc, to, answer),
@@ -286,7 +308,7 @@ fn push_reply(alloc: Global, to: &mut Bytes, reply: &Reply) -> Result<(), AllocE
         Reply::Reset(answer) => push_done(alloc, to, answer),
         Reply::Look(look) => {
             to.append(b"ok ")?;
-            print_look(alloc, to, look)
+            print_look(alloc, to, look.as_look())
         }
         Reply::Tick(answer) => push_tick(alloc, to, answer),
         Reply::Idle => to.append(b"ok"),

@@ -9,7 +9,7 @@ ghost use Rattle.hv_answer.specs.Reading.{AreReplyWords};
 
 use crate::given::{
     behind_word, given_bytes, given_changes, given_generation, given_names, given_nothing,
-    given_number, given_slice, is_alone, number_alone,
+    given_number, given_slice, given_windows, guests_alone, is_alone, number_alone,
 };
 use crate::refused::refusal_of;
 use crate::reply::Reply;
@@ -17,7 +17,7 @@ use crate::told::{
     read_access, read_balance, read_fetch, read_pin, read_sample, read_state, read_tick,
 };
 use hv_data::WordRefusal;
-use hv_look::read_look;
+use hv_look::{BoxedLook, read_look};
 use hv_name::StepName;
 use hv_text::Bytes;
 use std::alloc::Global;
@@ -67,6 +67,18 @@ fn read_preempt(words: &[Bytes]) -> Result<Reply, WordRefusal>
     Ok(Reply::Preempt)
 }
 
+/// The reply of a look at the directory.
+fn read_guests(alloc: Global, words: &[Bytes]) -> Result<Reply, WordRefusal>
+    ensures { MatchResult result
+        (λ reply. AreReplyWords StepName.Guests words.now reply)
+        (λ e. Because e ((reply : Reply) → AreReplyWords StepName.Guests words.now reply → ⊥)) }
+{
+    let Some(listed) = behind_word(words, b"ok") else {
+        return Err(WordRefusal::BadWord);
+    };
+    Ok(Reply::Guests(guests_alone(alloc, listed)?))
+}
+
 /// The reply of a look at a VCPU.
 fn read_shown(alloc: Global, words: &[Bytes]) -> Result<Reply, WordRefusal>
     ensures { MatchResult result
@@ -76,7 +88,8 @@ fn read_shown(alloc: Global, words: &[Bytes]) -> Result<Reply, WordRefusal>
     let Some(shown) = behind_word(words, b"ok") else {
         return Err(WordRefusal::BadWord);
     };
-    Ok(Reply::Look(read_look(alloc, shown)?))
+    let look = read_look(alloc, shown)?;
+    Ok(Reply::Look(BoxedLook::new(alloc, look)?))
 }
 
 /// The reply of a step with a name.
@@ -98,12 +111,12 @@ pub fn read_reply(alloc: Global, name: StepName, words: &[Bytes]) -> Result<Repl
         StepName::Rm => Ok(Reply::Rm(given_nothing(alloc, name, words)?)),
         StepName::Write => Ok(Reply::Write(given_nothing(alloc, name, words)?)),
         StepName::Asm => Ok(Reply::Asm(given_number(alloc, name, words)?)),
-        StepName::Guests => Err(WordRefusal::BadWord),
+        StepName::Guests => read_guests(alloc, words),
         StepName::Name => Ok(Reply::Name(given_generation(alloc, name, words)?)),
         StepName::Stage => Ok(Reply::Stage(given_nothing(alloc, name, words)?)),
         StepName::Add => Ok(Reply::Add(given_changes(alloc, name, words)?)),
         StepName::Drop => Ok(Reply::Drop(given_changes(alloc, name, words)?)),
-        StepName::Regions => Err(WordRefusal::BadWord),
+        StepName::Regions => Ok(Reply::Regions(given_windows(alloc, name, words)?)),
         StepName::Load => Ok(Reply::Load(given_number(alloc, name, words)?)),
         StepName::Mem => Ok(Reply::Mem(given_bytes(alloc, name, words)?)),
         StepName::Devreset => Ok(Reply::Devreset(given_changes(alloc, name, words)?)),

@@ -1,6 +1,7 @@
 //! Replies: what came of a step.
 use hv_data::{Generation, SignalChanges, State};
-use hv_look::Look;
+use hv_listing::{GuestList, WindowList};
+use hv_look::BoxedLook;
 use hv_refusal::Refusal;
 use hv_text::{Bytes, Strings};
 
@@ -81,11 +82,15 @@ pub enum Reply {
     Write(Result<(), Refusal>),
     /// The number of words in the image.
     Asm(Result<u64, Refusal>),
+    /// The guests of the directory, by slot.
+    Guests(GuestList),
     /// The slot and the birth of the guest.
     Name(Result<Generation, Refusal>),
     Stage(Result<(), Refusal>),
     Add(Result<SignalChanges, Refusal>),
     Drop(Result<SignalChanges, Refusal>),
+    /// The windows, memory before I/O, by base.
+    Regions(Result<WindowList, Refusal>),
     /// The number of bytes that were loaded.
     Load(Result<u64, Refusal>),
     Mem(Result<Bytes, Refusal>),
@@ -99,7 +104,7 @@ pub enum Reply {
     Pause(Result<(), Refusal>),
     Halt(Result<(), Refusal>),
     Reset(Result<(), Refusal>),
-    Look(Look),
+    Look(BoxedLook),
     /// Nothing where the guest has no live clock.
     Tick(Option<SignalChanges>),
     Idle,

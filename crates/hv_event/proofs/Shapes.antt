@@ -14,7 +14,7 @@ use Rattle.hv_step.specs.declared.step.Step.TheVariants as step
 use Rattle.hv_step.specs.Words.{name_of, IsOver, EndsBefore}
 use Rattle.hv_answer.specs.declared.reply.Reply.{Reply}
 use Rattle.hv_answer.specs.declared.reply.Reply.TheVariants as reply
-use Rattle.hv_answer.specs.Payload.{no_words, bytes_words, names_words, number_words, changes_words, generation_words, ticked_words, fetched_words, accessed_words, moved_words, sampled_words, pinned_words, maybe_words}
+use Rattle.hv_answer.specs.Payload.{no_words, bytes_words, names_words, windows_words, number_words, changes_words, generation_words, ticked_words, fetched_words, accessed_words, moved_words, sampled_words, pinned_words, maybe_words}
 use Rattle.hv_answer.specs.Reply.{given_words, reply_words, IsReplyOf}
 use Rattle.hv_event.specs.Words.{arrow}
 
@@ -88,10 +88,12 @@ reply_first (reply.Mkdir answer) = given_first no_words answer
 reply_first (reply.Rm answer) = given_first no_words answer
 reply_first (reply.Write answer) = given_first no_words answer
 reply_first (reply.Asm answer) = given_first number_words answer
+reply_first (reply.Guests guests) = (codes "ok", _, refl)
 reply_first (reply.Name answer) = given_first generation_words answer
 reply_first (reply.Stage answer) = given_first no_words answer
 reply_first (reply.Add answer) = given_first changes_words answer
 reply_first (reply.Drop answer) = given_first changes_words answer
+reply_first (reply.Regions answer) = given_first windows_words answer
 reply_first (reply.Load answer) = given_first number_words answer
 reply_first (reply.Mem answer) = given_first bytes_words answer
 reply_first (reply.Devreset answer) = given_first changes_words answer

@@ -64,7 +64,9 @@ const LINES: [&[u8]; 46] = [
 ];
 
 /// The lines of the steps of guests, regions, VCPUs and harts.
-const GUEST_LINES: [&[u8]; 38] = [
+const GUEST_LINES: [&[u8]; 42] = [
+    b"1 t0 1 guests -> ok -",
+    b"2 t0 2 guests -> ok g0:0:Making,a,b:3:Made",
     b"3 t0 3 name g0 -> ok 0 17",
     b"4 t0 4 name g0 -> refused BadNode /guests/g0/aspace/ram Form",
     b"5 t0 5 name -> -> refused NoGuest",
@@ -74,6 +76,8 @@ const GUEST_LINES: [&[u8]; 38] = [
     b"9 t0 9 add g0 ram Made @- -> refused NoSuchGuest",
     b"10 t0 10 add g0 ram Made @0.17 -> refused Overlap 3",
     b"11 t0 11 drop g0 uart Made @0.17 -> ok m1.1",
+    b"12 t0 12 regions g0 @0.17 -> ok 0:0:memory:0x80000000:0x10000:0x0,3:1:io:0x10000000:0x100:0x40",
+    b"13 t0 13 regions g0 @- -> refused GuestState Making",
     b"14 t0 14 load g0 /image 0x80000000 @0.17 -> ok 16",
     b"15 t0 15 mem g0 0x80000000 4 @0.17 -> ok 93000000",
     b"16 t0 16 devreset g0 uart @0.17 -> ok m1.0",
@@ -133,7 +137,7 @@ fn reads_what_it_prints(rt: HostRuntime) -> Result<(), Fail> {
 
 #[test]
 fn refuses_lines_of_no_event(rt: HostRuntime) -> Result<(), Fail> {
-    let lines: [&[u8]; 73] = [
+    let lines: [&[u8]; 76] = [
         b"",
         b"01 t0 1 rest -> ok",
         b"1 t00 1 rest -> ok",
@@ -177,6 +181,7 @@ fn refuses_lines_of_no_event(rt: HostRuntime) -> Result<(), Fail> {
         b"1 t0 1 guests -> ok",
         b"1 t0 1 guests -> ok g0:0",
         b"1 t0 1 guests g0 -> ok -",
+        b"1 t0 1 guests -> refused NoSuchGuest",
         b"1 t0 1 name -> refused NoGuest",
         b"1 t0 1 name g0 -> ok 0",
         b"1 t0 1 stage g0 Making -> ok",
@@ -186,6 +191,8 @@ fn refuses_lines_of_no_event(rt: HostRuntime) -> Result<(), Fail> {
         b"1 t0 1 add g0 ram Made @0.17 -> ok m0.F",
         b"1 t0 1 drop g0 ram Made @0.17 -> refused Live",
         b"1 t0 1 regions g0 @- -> ok",
+        b"1 t0 1 regions g0 @0.17 -> ok 0:0:rom:0x0:0x1:0x0",
+        b"1 t0 1 regions g0 @0.17 -> ok 0:0:io:0x0:0x1",
         b"1 t0 1 load g0 /image 80000000 @- -> ok 1",
         b"1 t0 1 load g0 /image 0x080000000 @- -> ok 1",
         b"1 t0 1 mem g0 0x0 0x4 @- -> ok 00",

@@ -1,4 +1,4 @@
-//! GuestList as a list of them shows them.
+//! Guests as `guests` lists them.
 ghost use Rattle.std.specs.Prelude.{◌≡◌};
 
 use hv_text::{Bytes, Stage};
@@ -12,7 +12,7 @@ pub struct ListedGuest {
     pub stage: Stage,
 }
 
-/// GuestList that contracts see as a list.
+/// Guests, which contracts see as a list.
 #[derive(Debug, Drop)]
 pub struct GuestList {
     items: Vec<ListedGuest>,

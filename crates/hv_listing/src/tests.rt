@@ -5,7 +5,12 @@ use hv_text::Bytes;
 use std::alloc::Global;
 use std::test::Fail;
 
-const GUESTS: &[&[u8]] = &[b"-", b"g0:0:Making", b"a,b:3:Made,-:7:Ending"];
+const GUESTS: &[&[u8]] = &[
+    b"-",
+    b"g0:0:Making",
+    b"a,b:3:Made,-:7:Ending",
+    b"-,g0:0:Made",
+];
 
 const NO_GUESTS: &[&[u8]] = &[
     b"",
@@ -16,7 +21,7 @@ const NO_GUESTS: &[&[u8]] = &[
     b"g0:256:Made",
     b":0:Made",
     b"g0:0:Made,",
-    b"-,g0:0:Made",
+    b"g0:0:Made,-",
     b"g:0:0:Made",
 ];
 

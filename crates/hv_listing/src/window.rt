@@ -1,4 +1,4 @@
-//! WindowList as a list of them shows them.
+//! Windows as `regions` lists them.
 ghost use Rattle.std.specs.Prelude.{◌≡◌};
 
 use hv_text::AddressType;
@@ -20,7 +20,7 @@ pub struct ListedWindow {
     pub offset: u64,
 }
 
-/// WindowList that contracts see as a list.
+/// Windows, which contracts see as a list.
 #[derive(Debug, Drop)]
 pub struct WindowList {
     items: Vec<ListedWindow>,

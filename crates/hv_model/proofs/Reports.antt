@@ -31,35 +31,7 @@ reply-once (reply.Mkdir r) a b x y = x ∙ sym y
 reply-once (reply.Rm r) a b x y = x ∙ sym y
 reply-once (reply.Write r) a b x y = x ∙ sym y
 reply-once (reply.Asm r) a b x y = x ∙ sym y
-reply-once (reply.Name r) a b x y = absurd x
-reply-once (reply.Stage r) a b x y = absurd x
-reply-once (reply.Add r) a b x y = absurd x
-reply-once (reply.Drop r) a b x y = absurd x
-reply-once (reply.Load r) a b x y = absurd x
-reply-once (reply.Mem r) a b x y = absurd x
-reply-once (reply.Devreset r) a b x y = absurd x
-reply-once (reply.Feed r) a b x y = absurd x
-reply-once (reply.Output r) a b x y = absurd x
-reply-once (reply.Vadd r) a b x y = absurd x
-reply-once (reply.Vdrop r) a b x y = absurd x
-reply-once (reply.Kick r) a b x y = absurd x
-reply-once (reply.Resume r) a b x y = absurd x
-reply-once (reply.Pause r) a b x y = absurd x
-reply-once (reply.Halt r) a b x y = absurd x
-reply-once (reply.Reset r) a b x y = absurd x
-reply-once (reply.Look r) a b x y = absurd x
-reply-once (reply.Tick r) a b x y = absurd x
-reply-once reply.Idle a b x y = absurd x
-reply-once (reply.Dispatch r) a b x y = absurd x
-reply-once reply.Preempt a b x y = absurd x
-reply-once (reply.Leave r) a b x y = absurd x
-reply-once (reply.Take r) a b x y = absurd x
-reply-once (reply.Fetch r) a b x y = absurd x
-reply-once (reply.Access r) a b x y = absurd x
-reply-once (reply.Fault r) a b x y = absurd x
-reply-once (reply.Balance r) a b x y = absurd x
-reply-once (reply.Sample r) a b x y = absurd x
-reply-once (reply.Pin r) a b x y = absurd x
+reply-once r a b x y = absurd x
 
 -- and so is the end of a line
 end-once : (rests : ℕ) (r : Reply) (a b : List ℕ) → ShowsEnd rests r a → ShowsEnd rests r b → a ≡ b

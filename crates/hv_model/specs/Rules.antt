@@ -23,9 +23,15 @@ Value (Actor (Terminal t)) = TerminalState
 
 -- The components that a step touches, in the order in which they are locked.
 abbrev pub components_of : Step → List CellId
-components_of (step.Bad s) = []
-components_of (step.Rest s) = []
-components_of _ = component.Files ∷ []
+components_of (step.Ls s) = component.Files ∷ []
+components_of (step.Cat s) = component.Files ∷ []
+components_of (step.Dts s) = component.Files ∷ []
+components_of (step.Run s) = component.Files ∷ []
+components_of (step.Mkdir s) = component.Files ∷ []
+components_of (step.Rm s) = component.Files ∷ []
+components_of (step.Write s) = component.Files ∷ []
+components_of (step.Asm s) = component.Files ∷ []
+components_of _ = []
 
 -- The components that an event touches, given the number of harts.
 abbrev pub components : ℕ → Event → Carry → List CellId

@@ -49,13 +49,17 @@ touch-actor O e a = ap (λ b. same_actor a e.event.actor || b) (none-of a (compo
 
 -- whether a step touches the files
 abbrev pub touches_files : Step → Bool
-touches_files (step.Bad s) = false
-touches_files (step.Rest s) = false
-touches_files _ = true
+touches_files (step.Ls s) = true
+touches_files (step.Cat s) = true
+touches_files (step.Dts s) = true
+touches_files (step.Run s) = true
+touches_files (step.Mkdir s) = true
+touches_files (step.Rm s) = true
+touches_files (step.Write s) = true
+touches_files (step.Asm s) = true
+touches_files _ = false
 
 files-among : (st : Step) → list_any (same_cell (Component component.Files)) (map Component (components_of st)) ≡ touches_files st
-files-among (step.Bad s) = refl
-files-among (step.Rest s) = refl
 files-among (step.Ls s) = refl
 files-among (step.Cat s) = refl
 files-among (step.Dts s) = refl
@@ -64,37 +68,7 @@ files-among (step.Mkdir s) = refl
 files-among (step.Rm s) = refl
 files-among (step.Write s) = refl
 files-among (step.Asm s) = refl
-files-among (step.Guests s) = refl
-files-among (step.Name s) = refl
-files-among (step.Stage s) = refl
-files-among (step.Add s) = refl
-files-among (step.Drop s) = refl
-files-among (step.Regions s) = refl
-files-among (step.Load s) = refl
-files-among (step.Mem s) = refl
-files-among (step.Devreset s) = refl
-files-among (step.Feed s) = refl
-files-among (step.Output s) = refl
-files-among (step.Vadd s) = refl
-files-among (step.Vdrop s) = refl
-files-among (step.Kick s) = refl
-files-among (step.Resume s) = refl
-files-among (step.Pause s) = refl
-files-among (step.Halt s) = refl
-files-among (step.Reset s) = refl
-files-among (step.Look s) = refl
-files-among (step.Tick s) = refl
-files-among (step.Idle s) = refl
-files-among (step.Dispatch s) = refl
-files-among (step.Preempt s) = refl
-files-among (step.Leave s) = refl
-files-among (step.Take s) = refl
-files-among (step.Fetch s) = refl
-files-among (step.Access s) = refl
-files-among (step.Fault s) = refl
-files-among (step.Balance s) = refl
-files-among (step.Sample s) = refl
-files-among (step.Pin s) = refl
+files-among st = refl
 
 touch-files : (O : Origin) (e : Entry) → touches (machine O) (Component component.Files) e ≡ touches_files e.event.step
 touch-files O e = files-among e.event.step
@@ -105,8 +79,6 @@ pub data Part (old new : FileCell) (own : ℕ) (e : Entry) (st : Step) : Type 0 
   takes : touches_files st ≡ true → components_of st ≡ component.Files ∷ [] → TouchesFiles old new own e → Part old new own e st
 
 pub part-of : (old new : FileCell) (own : ℕ) (e : Entry) (st : Step) → FilesPart st old new own e → Part old new own e st
-part-of old new own e (step.Bad s) h = leaves refl refl h
-part-of old new own e (step.Rest s) h = leaves refl refl h
 part-of old new own e (step.Ls s) h = takes refl refl h
 part-of old new own e (step.Cat s) h = takes refl refl h
 part-of old new own e (step.Dts s) h = takes refl refl h
@@ -115,37 +87,7 @@ part-of old new own e (step.Mkdir s) h = takes refl refl h
 part-of old new own e (step.Rm s) h = takes refl refl h
 part-of old new own e (step.Write s) h = takes refl refl h
 part-of old new own e (step.Asm s) h = takes refl refl h
-part-of old new own e (step.Guests s) h = takes refl refl h
-part-of old new own e (step.Name s) h = takes refl refl h
-part-of old new own e (step.Stage s) h = takes refl refl h
-part-of old new own e (step.Add s) h = takes refl refl h
-part-of old new own e (step.Drop s) h = takes refl refl h
-part-of old new own e (step.Regions s) h = takes refl refl h
-part-of old new own e (step.Load s) h = takes refl refl h
-part-of old new own e (step.Mem s) h = takes refl refl h
-part-of old new own e (step.Devreset s) h = takes refl refl h
-part-of old new own e (step.Feed s) h = takes refl refl h
-part-of old new own e (step.Output s) h = takes refl refl h
-part-of old new own e (step.Vadd s) h = takes refl refl h
-part-of old new own e (step.Vdrop s) h = takes refl refl h
-part-of old new own e (step.Kick s) h = takes refl refl h
-part-of old new own e (step.Resume s) h = takes refl refl h
-part-of old new own e (step.Pause s) h = takes refl refl h
-part-of old new own e (step.Halt s) h = takes refl refl h
-part-of old new own e (step.Reset s) h = takes refl refl h
-part-of old new own e (step.Look s) h = takes refl refl h
-part-of old new own e (step.Tick s) h = takes refl refl h
-part-of old new own e (step.Idle s) h = takes refl refl h
-part-of old new own e (step.Dispatch s) h = takes refl refl h
-part-of old new own e (step.Preempt s) h = takes refl refl h
-part-of old new own e (step.Leave s) h = takes refl refl h
-part-of old new own e (step.Take s) h = takes refl refl h
-part-of old new own e (step.Fetch s) h = takes refl refl h
-part-of old new own e (step.Access s) h = takes refl refl h
-part-of old new own e (step.Fault s) h = takes refl refl h
-part-of old new own e (step.Balance s) h = takes refl refl h
-part-of old new own e (step.Sample s) h = takes refl refl h
-part-of old new own e (step.Pin s) h = takes refl refl h
+part-of old new own e st h = leaves refl refl h
 
 module _ (O : Origin) (s : State (machine O)) (b b' : Board) (t : ℕ) (e : Entry) (d : TerminalCell) (below : t < 4)
     (holds : Holds O s b) (made : IsBoardStep b b' t e) where

@@ -36,9 +36,15 @@ pub record LeavesFiles (old new : FileCell) (own : ℕ) (e : Entry) : Type 0 whe
 
 -- what a step does to the files, by its kind
 abbrev pub FilesPart : Step → FileCell → FileCell → ℕ → Entry → Type 0
-FilesPart (step.Bad s) old new own e = LeavesFiles old new own e
-FilesPart (step.Rest s) old new own e = LeavesFiles old new own e
-FilesPart _ old new own e = TouchesFiles old new own e
+FilesPart (step.Ls s) old new own e = TouchesFiles old new own e
+FilesPart (step.Cat s) old new own e = TouchesFiles old new own e
+FilesPart (step.Dts s) old new own e = TouchesFiles old new own e
+FilesPart (step.Run s) old new own e = TouchesFiles old new own e
+FilesPart (step.Mkdir s) old new own e = TouchesFiles old new own e
+FilesPart (step.Rm s) old new own e = TouchesFiles old new own e
+FilesPart (step.Write s) old new own e = TouchesFiles old new own e
+FilesPart (step.Asm s) old new own e = TouchesFiles old new own e
+FilesPart _ old new own e = LeavesFiles old new own e
 
 -- an entry is the terminal's next step, and the terminal and the files are as it leaves them
 pub record IsStep (old new : FileCell) (t t' : Terminal) (e : Entry) : Type 0 where

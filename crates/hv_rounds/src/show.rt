@@ -187,10 +187,12 @@ pub fn push_reply(alloc: Global, to: &mut Bytes, reply: &Reply) -> Result<(), Al
         Reply::Rm(answer) => push_changed(alloc, to, answer),
         Reply::Write(answer) => push_changed(alloc, to, answer),
         Reply::Asm(answer) => push_assembled(alloc, to, answer),
-        Reply::Name(_)
+        Reply::Guests(_)
+        | Reply::Name(_)
         | Reply::Stage(_)
         | Reply::Add(_)
         | Reply::Drop(_)
+        | Reply::Regions(_)
         | Reply::Load(_)
         | Reply::Mem(_)
         | Reply::Devreset(_)
