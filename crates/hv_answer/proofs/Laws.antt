@@ -6,11 +6,9 @@ use Rattle.std.specs.Fmt.{decimal}
 use Rattle.std.proofs.lemmas.Fmt.{decimal_injective}
 use Rattle.hv_data.specs.declared.changes.SignalChanges.{SignalChanges}
 use Rattle.hv_data.specs.declared.generation.Generation.{Generation}
-use Rattle.hv_data.specs.declared.refusal.WordRefusal.{WordRefusal}
-use Rattle.hv_data.specs.declared.refusal.WordRefusal.TheVariants.{BadWord, Memory}
 use Rattle.hv_data.specs.Text.{address_text, names_text, bit_text}
 use Rattle.hv_data.specs.Written.{IsNumber, IsNumber8, AreBytes, AreListedNames, AreChanges, IsState, IsAny}
-use Rattle.hv_data.specs.Reading.{Because, BeginWith}
+use Rattle.hv_data.specs.Reading.{BeginWith}
 use Rattle.hv_data.specs.Data.{Datum, Number, Number8, Address, Hex, Names, StateOf, Changed, kinds_of, AreData, data_words, HaveNoSpace}
 use Rattle.hv_data.proofs.DataLemmas.{same_data, data_free, free_by_test}
 use Rattle.hv_text.specs.Front.{IsFree}
@@ -37,11 +35,6 @@ use Rattle.hv_answer.specs.Payload.{IsNumber32, IsBorn, IsOutcome, IsFetched, Is
 use Rattle.hv_answer.specs.Refused.{MayRefuse}
 use Rattle.hv_answer.specs.Reply.{refused_words, given_words, IsAnswer}
 use Rattle.hv_answer.specs.Reading.{AreWordsOf}
-
--- what holds for one reason holds for what follows from it
-pub because_more : {P Q : Type 0} (e : WordRefusal) → (P → Q) → Because e P → Because e Q
-because_more BadWord more h = more h
-because_more (Memory e) more h = tt
 
 -- a number of more than 32 bits is no shorter one
 pub no_long_number : (words : List (List ℕ)) (given : ℕ) → AreWordsOf IsNumber number_words words given → 2 ^ 32 ≤ given → (n : ℕ) → AreWordsOf IsNumber32 number_words words n → ⊥

@@ -9,27 +9,14 @@ ghost use Rattle.hv_answer.specs.Reading.{ReadsWords};
 
 use crate::refused::refusal_of;
 use hv_data::{
-    Generation, SignalChanges, WordRefusal, take_bytes, take_changes, take_names, take_number,
-    take_number8,
+    Generation, SignalChanges, WordRefusal, behind_word, take_bytes, take_changes, take_names,
+    take_number, take_number8,
 };
 use hv_listing::{GuestList, WindowList, guests_word, windows_word};
 use hv_name::StepName;
 use hv_refusal::Refusal;
 use hv_text::{Bytes, Strings};
 use std::alloc::Global;
-
-/// The words behind a first word.
-pub fn behind_word<'a>(words: &'a [Bytes], word: &[u8]) -> Option<&'a [Bytes]>
-    ensures { MatchOption result
-        ((rest : List (List ℕ)) → words.now ≢ word.now ∷ rest)
-        (λ rest. words.now ≡ word.now ∷ rest.now) }
-{
-    let (first, rest) = words.split_first()?;
-    if first.as_slice() != word {
-        return None;
-    }
-    Some(rest)
-}
 
 /// The one word that there is.
 fn one_word(words: &[Bytes]) -> Option<&[u8]>

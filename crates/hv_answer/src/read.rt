@@ -8,7 +8,7 @@ ghost use Rattle.hv_answer.specs.Reply.{reply_words, IsReplyOf};
 ghost use Rattle.hv_answer.specs.Reading.{AreReplyWords};
 
 use crate::given::{
-    behind_word, given_bytes, given_changes, given_generation, given_names, given_nothing,
+    given_bytes, given_changes, given_generation, given_names, given_nothing,
     given_number, given_slice, given_windows, guests_alone, is_alone, number_alone,
 };
 use crate::refused::refusal_of;
@@ -16,7 +16,7 @@ use crate::reply::Reply;
 use crate::told::{
     read_access, read_balance, read_fetch, read_pin, read_sample, read_state, read_tick,
 };
-use hv_data::WordRefusal;
+use hv_data::{WordRefusal, behind_word};
 use hv_look::{BoxedLook, read_look};
 use hv_name::StepName;
 use hv_text::Bytes;

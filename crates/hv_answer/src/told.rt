@@ -8,9 +8,11 @@ ghost use Rattle.hv_answer.specs.Payload.{pinned_words, ticked_words, maybe_word
 ghost use Rattle.hv_answer.specs.Reading.{ReadsWords};
 ghost use Rattle.hv_answer.specs.declared.reply.Pins.{Pins};
 
-use crate::given::{behind_word, changes_alone, is_alone, number_alone};
+use crate::given::{changes_alone, is_alone, number_alone};
 use crate::reply::{Accessed, Fetched, Moved, Outcome, Pinned, Pins, Sampled};
-use hv_data::{SignalChanges, State, WordRefusal, take_address, take_number8, take_state};
+use hv_data::{
+    SignalChanges, State, WordRefusal, behind_word, take_address, take_number8, take_state,
+};
 use hv_text::Bytes;
 use std::alloc::Global;
 

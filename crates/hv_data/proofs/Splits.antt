@@ -3,9 +3,11 @@ use Rattle.std.proofs.Common.{◌≡◌, ◌≢◌, ℕ, false, eqb, List, [], �
 use Rattle.std.specs.Prelude.{◌⊎◌}
 use Rattle.std.specs.List.{AllByRecursion, join_with_byte}
 use Rattle.std.proofs.lemmas.Bool.{cases_eq}
+use Rattle.std.proofs.lemmas.List.{append-nil}
 use Rattle.std.proofs.lemmas.List.Elements.{All-from_recursion}
 use Rattle.std.proofs.lemmas.List.Splits.{slice_split_none, slice_split_at}
 use Rattle.hv_text.specs.Front.{IsFree}
+use Rattle.hv_data.specs.Data.{spaced}
 use Rattle.hv_data.specs.Reading.{parts_at}
 
 free_tests : (byte : ℕ) (text : List ℕ) → IsFree byte text → AllByRecursion (λ x. eqb x byte ≡ false) text
@@ -56,3 +58,8 @@ pub joined_parts : (byte : ℕ) (part : List ℕ) (parts : List (List ℕ)) → 
 joined_parts byte part [] free each = last_part byte part free
 joined_parts byte part (next ∷ parts) free each =
     first_part byte part (join_with_byte byte (next ∷ parts)) free ∙ ap (λ (ps : List (List ℕ)). part ∷ ps) (joined_parts byte next parts each.0 each.1)
+
+-- words joined are the first, and each other behind a space
+pub joined_spaced : (w : List ℕ) (ws : List (List ℕ)) → join_with_byte 32 (w ∷ ws) ≡ w ++ spaced ws
+joined_spaced w [] = sym (append-nil w)
+joined_spaced w (v ∷ ws) = ap (λ (t : List ℕ). w ++ 32 ∷ t) (joined_spaced v ws)

@@ -1,6 +1,6 @@
 -- Data of all kinds, and lists of them.
-use Rattle.std.specs.Prelude.{◌≡◌, ℕ, List, ◌++◌, map, Option}
-use Rattle.std.specs.List.{AllByRecursion}
+use Rattle.std.specs.Prelude.{◌≡◌, ℕ, List, ◌∷◌, ◌++◌, map, Option}
+use Rattle.std.specs.List.{AllByRecursion, flat_map}
 use Rattle.std.specs.Fmt.{decimal}
 use Rattle.hv_text.specs.Front.{IsFree}
 use Rattle.hv_text.specs.Path.{ArePathNames, path_text}
@@ -117,6 +117,10 @@ AreData ds = AllByRecursion IsDatum ds
 -- The words of data.
 abbrev pub data_words : List Datum → List (List ℕ)
 data_words ds = map datum_text ds
+
+-- Each word behind a space.
+abbrev pub spaced : List (List ℕ) → List ℕ
+spaced words = flat_map (λ w. 32 ∷ w) words
 
 -- The kinds of data.
 abbrev pub kinds_of : List Datum → List Kind

@@ -22,7 +22,7 @@ pub use access::{AccessKind, Direction};
 pub use changes::SignalChanges;
 pub use generation::Generation;
 pub use law::{data_are_unambiguous, words_have_no_space};
-pub use parts::{first_word, split_at_byte};
+pub use parts::{behind_word, first_word, split_at_byte};
 pub use push::{
     push_access_kind, push_address, push_address_type, push_bytes, push_changes, push_direction,
     push_generation, push_names, push_next_stage, push_path, push_stage, push_state,

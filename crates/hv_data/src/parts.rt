@@ -1,5 +1,5 @@
 //! Texts parted at a byte, and words taken from the front.
-ghost use Rattle.std.specs.Prelude.{◌≡◌, ◌∷◌, [], IfOk, MatchOption};
+ghost use Rattle.std.specs.Prelude.{◌≡◌, ◌≢◌, ◌∷◌, [], List, ℕ, IfOk, MatchOption};
 ghost use Rattle.hv_data.specs.Reading.{parts_at};
 
 use hv_text::{Bytes, word_at};
@@ -27,4 +27,17 @@ pub fn first_word(words: &[Bytes]) -> Option<(&[u8], &[Bytes])>
 {
     let (first, rest) = words.split_first()?;
     Some((first.as_slice(), rest))
+}
+
+/// The words behind a first word.
+pub fn behind_word<'a>(words: &'a [Bytes], word: &[u8]) -> Option<&'a [Bytes]>
+    ensures { MatchOption result
+        ((rest : List (List ℕ)) → words.now ≢ word.now ∷ rest)
+        (λ rest. words.now ≡ word.now ∷ rest.now) }
+{
+    let (first, rest) = words.split_first()?;
+    if first.as_slice() != word {
+        return None;
+    }
+    Some(rest)
 }

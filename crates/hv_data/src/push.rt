@@ -1,30 +1,23 @@
 //! The words of data, printed.
-ghost use Rattle.std.specs.Prelude.{◌≡◌, ◌++◌, OnOk, false};
-ghost use Rattle.std.specs.Fmt.{digits};
+ghost use Rattle.std.specs.Prelude.{◌≡◌, ◌++◌, OnOk, OnErr};
 ghost use Rattle.hv_text.specs.Path.{path_text};
 ghost use Rattle.hv_data.specs.Text.{address_text, hex_pairs, hex_text, further_names, names_text, generation_text, stage_text, next_stage_text};
-ghost use Rattle.hv_data.specs.Text.{address_type_text, state_text, state_name_text, direction_text, access_kind_text, bit_text, changes_text};
+ghost use Rattle.hv_data.specs.Text.{address_type_text, state_text, state_name_text, direction_text, access_kind_text, changes_text};
 
 use crate::access::{AccessKind, Direction};
 use crate::changes::SignalChanges;
 use crate::generation::Generation;
 use crate::state::{State, StateName};
-use hv_text::{AddressType, Bytes, Path, Stage, Strings, push_decimal, push_hex};
+use hv_text::{AddressType, Bytes, Path, Stage, Strings, push_hex};
 use std::alloc::{AllocError, Global};
 
-fn push_digits(alloc: Global, to: &mut Bytes, value: u64) -> Result<(), AllocError>
-    ensures { OnOk result (to.new ≡ to.old ++ digits 16 false value) }
-{
-    let text = format!(in alloc; "{value:x}")?;
-    to.append(text.as_bytes())
-}
-
-/// Appends an address, a machine word or a register's value.
+/// Appends an address, a machine word or a register's value. At `Err` nothing has changed.
 pub fn push_address(alloc: Global, to: &mut Bytes, value: u64) -> Result<(), AllocError>
-    ensures { OnOk result (to.new ≡ to.old ++ address_text value) }
+    ensures ok { OnOk result (to.new ≡ to.old ++ address_text value) }
+    ensures err { OnErr result (to.new ≡ to.old) }
 {
-    to.append(b"0x")?;
-    push_digits(alloc, to, value)
+    let text = format!(in alloc; "0x{value:x}")?;
+    to.append(text.as_bytes())
 }
 
 fn push_pairs(alloc: Global, to: &mut Bytes, bytes: &[u8]) -> Result<(), AllocError>
@@ -36,20 +29,24 @@ fn push_pairs(alloc: Global, to: &mut Bytes, bytes: &[u8]) -> Result<(), AllocEr
     Ok(())
 }
 
-/// Appends bytes in hexadecimal digits.
+/// Appends bytes in hexadecimal digits. At `Err` nothing has changed.
 pub fn push_bytes(alloc: Global, to: &mut Bytes, bytes: &Bytes) -> Result<(), AllocError>
-    ensures { OnOk result (to.new ≡ to.old ++ hex_text bytes.now) }
+    ensures ok { OnOk result (to.new ≡ to.old ++ hex_text bytes.now) }
+    ensures err { OnErr result (to.new ≡ to.old) }
 {
     let bytes = bytes.as_slice();
     if bytes.is_empty() {
         return to.append(b"-");
     }
-    push_pairs(alloc, to, bytes)
+    let mut pairs = Bytes::from_vec(Vec::new(alloc));
+    push_pairs(alloc, &mut pairs, bytes)?;
+    to.append(pairs.as_slice())
 }
 
-/// Appends a path.
+/// Appends a path. At `Err` nothing has changed.
 pub fn push_path(alloc: Global, to: &mut Bytes, path: &Path) -> Result<(), AllocError>
-    ensures { OnOk result (to.new ≡ to.old ++ path_text path.now) }
+    ensures ok { OnOk result (to.new ≡ to.old ++ path_text path.now) }
+    ensures err { OnErr result (to.new ≡ to.old) }
 {
     let text = path.text(alloc)?;
     to.append(text.as_slice())
@@ -65,41 +62,43 @@ fn push_further_names(to: &mut Bytes, names: &[Bytes]) -> Result<(), AllocError>
     Ok(())
 }
 
-/// Appends the names of a folder's entries.
+/// Appends the names of a folder's entries. At `Err` nothing has changed.
 pub fn push_names(to: &mut Bytes, names: &Strings) -> Result<(), AllocError>
-    ensures { OnOk result (to.new ≡ to.old ++ names_text names.now) }
+    ensures ok { OnOk result (to.new ≡ to.old ++ names_text names.now) }
+    ensures err { OnErr result (to.new ≡ to.old) }
 {
     match names.as_slice().split_first() {
         Some((first, others)) => {
-            to.append(first.as_slice())?;
-            push_further_names(to, others)
+            let mut text = first.clone()?;
+            push_further_names(&mut text, others)?;
+            to.append(text.as_slice())
         }
         None => to.append(b"."),
     }
 }
 
-/// Appends a generation, or that there is none.
+/// Appends a generation, or that there is none. At `Err` nothing has changed.
 pub fn push_generation(
     alloc: Global,
     to: &mut Bytes,
     generation: Option<Generation>,
 ) -> Result<(), AllocError>
-    ensures { OnOk result (to.new ≡ to.old ++ generation_text generation) }
+    ensures ok { OnOk result (to.new ≡ to.old ++ generation_text generation) }
+    ensures err { OnErr result (to.new ≡ to.old) }
 {
     match generation {
         None => to.append(b"@-"),
         Some(Generation { slot, birth }) => {
-            to.append(b"@")?;
-            push_decimal(alloc, to, slot as u64)?;
-            to.append(b".")?;
-            push_decimal(alloc, to, birth)
+            let text = format!(in alloc; "@{slot}.{birth}")?;
+            to.append(text.as_bytes())
         }
     }
 }
 
-/// Appends a stage.
+/// Appends a stage. At `Err` nothing has changed.
 pub fn push_stage(to: &mut Bytes, stage: Stage) -> Result<(), AllocError>
-    ensures { OnOk result (to.new ≡ to.old ++ stage_text stage) }
+    ensures ok { OnOk result (to.new ≡ to.old ++ stage_text stage) }
+    ensures err { OnErr result (to.new ≡ to.old) }
 {
     match stage {
         Stage::Making => to.append(b"Making"),
@@ -108,9 +107,10 @@ pub fn push_stage(to: &mut Bytes, stage: Stage) -> Result<(), AllocError>
     }
 }
 
-/// Appends the stage that follows; none is `Free`.
+/// Appends the stage that follows; none is `Free`. At `Err` nothing has changed.
 pub fn push_next_stage(to: &mut Bytes, stage: Option<Stage>) -> Result<(), AllocError>
-    ensures { OnOk result (to.new ≡ to.old ++ next_stage_text stage) }
+    ensures ok { OnOk result (to.new ≡ to.old ++ next_stage_text stage) }
+    ensures err { OnErr result (to.new ≡ to.old) }
 {
     match stage {
         None => to.append(b"Free"),
@@ -118,9 +118,10 @@ pub fn push_next_stage(to: &mut Bytes, stage: Option<Stage>) -> Result<(), Alloc
     }
 }
 
-/// Appends a type of addresses.
+/// Appends a type of addresses. At `Err` nothing has changed.
 pub fn push_address_type(to: &mut Bytes, address: AddressType) -> Result<(), AllocError>
-    ensures { OnOk result (to.new ≡ to.old ++ address_type_text address) }
+    ensures ok { OnOk result (to.new ≡ to.old ++ address_type_text address) }
+    ensures err { OnErr result (to.new ≡ to.old) }
 {
     match address {
         AddressType::Memory => to.append(b"memory"),
@@ -128,17 +129,18 @@ pub fn push_address_type(to: &mut Bytes, address: AddressType) -> Result<(), All
     }
 }
 
-/// Appends a state, with its hart or whether it waits.
+/// Appends a state, with its hart or whether it waits. At `Err` nothing has changed.
 pub fn push_state(alloc: Global, to: &mut Bytes, state: State) -> Result<(), AllocError>
-    ensures { OnOk result (to.new ≡ to.old ++ state_text state) }
+    ensures ok { OnOk result (to.new ≡ to.old ++ state_text state) }
+    ensures err { OnErr result (to.new ≡ to.old) }
 {
     match state {
         State::Unknown => to.append(b"Unknown"),
         State::Reset => to.append(b"Reset"),
         State::Ready => to.append(b"Ready"),
         State::Running(hart) => {
-            to.append(b"Running")?;
-            push_decimal(alloc, to, hart as u64)
+            let text = format!(in alloc; "Running{hart}")?;
+            to.append(text.as_bytes())
         }
         State::Paused(false) => to.append(b"Paused"),
         State::Paused(true) => to.append(b"Paused/wfi"),
@@ -146,9 +148,10 @@ pub fn push_state(alloc: Global, to: &mut Bytes, state: State) -> Result<(), All
     }
 }
 
-/// Appends a state's name alone.
+/// Appends a state's name alone. At `Err` nothing has changed.
 pub fn push_state_name(to: &mut Bytes, state: StateName) -> Result<(), AllocError>
-    ensures { OnOk result (to.new ≡ to.old ++ state_name_text state) }
+    ensures ok { OnOk result (to.new ≡ to.old ++ state_name_text state) }
+    ensures err { OnErr result (to.new ≡ to.old) }
 {
     match state {
         StateName::Unknown => to.append(b"Unknown"),
@@ -160,9 +163,10 @@ pub fn push_state_name(to: &mut Bytes, state: StateName) -> Result<(), AllocErro
     }
 }
 
-/// Appends `r` or `w`.
+/// Appends `r` or `w`. At `Err` nothing has changed.
 pub fn push_direction(to: &mut Bytes, direction: Direction) -> Result<(), AllocError>
-    ensures { OnOk result (to.new ≡ to.old ++ direction_text direction) }
+    ensures ok { OnOk result (to.new ≡ to.old ++ direction_text direction) }
+    ensures err { OnErr result (to.new ≡ to.old) }
 {
     match direction {
         Direction::Read => to.append(b"r"),
@@ -170,9 +174,10 @@ pub fn push_direction(to: &mut Bytes, direction: Direction) -> Result<(), AllocE
     }
 }
 
-/// Appends `x`, `r` or `w`.
+/// Appends `x`, `r` or `w`. At `Err` nothing has changed.
 pub fn push_access_kind(to: &mut Bytes, access: AccessKind) -> Result<(), AllocError>
-    ensures { OnOk result (to.new ≡ to.old ++ access_kind_text access) }
+    ensures ok { OnOk result (to.new ≡ to.old ++ access_kind_text access) }
+    ensures err { OnErr result (to.new ≡ to.old) }
 {
     match access {
         AccessKind::Execute => to.append(b"x"),
@@ -181,21 +186,15 @@ pub fn push_access_kind(to: &mut Bytes, access: AccessKind) -> Result<(), AllocE
     }
 }
 
-/// Appends signal changes.
+/// Appends signal changes. At `Err` nothing has changed.
 pub fn push_changes(alloc: Global, to: &mut Bytes, changes: SignalChanges) -> Result<(), AllocError>
-    ensures { OnOk result (to.new ≡ to.old ++ changes_text changes) }
+    ensures ok { OnOk result (to.new ≡ to.old ++ changes_text changes) }
+    ensures err { OnErr result (to.new ≡ to.old) }
 {
-    to.append(b"m")?;
-    push_bit(to, changes.line)?;
-    to.append(b".")?;
-    push_digits(alloc, to, changes.pins as u64)
-}
-
-fn push_bit(to: &mut Bytes, bit: bool) -> Result<(), AllocError>
-    ensures { OnOk result (to.new ≡ to.old ++ bit_text bit) }
-{
-    match bit {
-        true => to.append(b"1"),
-        false => to.append(b"0"),
-    }
+    let pins = changes.pins;
+    let text = match changes.line {
+        true => format!(in alloc; "m1.{pins:x}")?,
+        false => format!(in alloc; "m0.{pins:x}")?,
+    };
+    to.append(text.as_bytes())
 }

@@ -62,7 +62,8 @@ fn prints_the_choices_that_it_reads(rt: HostRuntime) -> Result<(), Fail> {
             pins: 10
         }
     );
-    assert_eq!(rt; words.len(), 1);
+    assert!(rt; matches!(behind_word(words, b"end"), Some(rest) if rest.is_empty()));
+    assert!(rt; behind_word(words, b"ok").is_none());
     let mut text = Bytes::from_vec(Vec::new(rt.alloc()));
     push_stage(&mut text, stage)?;
     push_next_stage(&mut text, next)?;

@@ -1,23 +1,14 @@
 -- Values and their words.
-use Rattle.std.proofs.Common.{◌≡◌, ℕ, ◌<◌, suc, zero, List, [], ◌∷◌, ◌++◌, length, map, get_or, take, refl, sym, ap, subst, ◌∙◌, arith, append_assoc}
-use Rattle.std.specs.List.{flat_map, join_with_byte}
-use Rattle.std.proofs.lemmas.List.{append-nil}
-use Rattle.std.proofs.lemmas.List.Concat.{flat_map-append}
+use Rattle.std.proofs.Common.{◌≡◌, ℕ, ◌<◌, suc, zero, List, [], ◌∷◌, ◌++◌, length, get_or, refl, sym, ap, subst, ◌∙◌, arith, append_assoc}
+use Rattle.std.specs.List.{join_with_byte}
 use Rattle.hv_data.specs.Text.{address_text}
 use Rattle.hv_data.specs.Written.{IsNumber}
 use Rattle.hv_data.specs.Reading.{IsWordOf}
-use Rattle.hv_data.specs.Data.{Address, HaveNoSpace}
+use Rattle.hv_data.specs.Data.{Address, HaveNoSpace, spaced}
 use Rattle.hv_data.proofs.Numerals.{same_address}
 use Rattle.hv_data.proofs.DataLemmas.{data_free}
-use Rattle.hv_look.specs.Look.{values_words, behind_spaces, AreNumbers, AreWordsOf}
-
--- values behind a word are each behind a space
-pub joined : (word : List ℕ) (values : List ℕ) → join_with_byte 32 (word ∷ values_words values) ≡ word ++ behind_spaces values
-joined word [] = sym (append-nil word)
-joined word (v ∷ values) = ap (λ (t : List ℕ). word ++ (32 ∷ t)) (joined (address_text v) values)
-
-pub behind_both : (xs ys : List ℕ) → behind_spaces (xs ++ ys) ≡ behind_spaces xs ++ behind_spaces ys
-behind_both xs ys = flat_map-append (λ (v : ℕ). 32 ∷ address_text v) xs ys
+use Rattle.hv_data.proofs.Splits.{joined_spaced}
+use Rattle.hv_look.specs.Look.{values_words, AreNumbers, AreWordsOf}
 
 -- values with the same words are the same
 pub same_values : (xs ys : List ℕ) → AreNumbers xs → AreNumbers ys → values_words xs ≡ values_words ys → xs ≡ ys
@@ -61,5 +52,5 @@ none_at words i word shown lt is same none values h =
     none_where_none words i word lt is (λ v there. none v (subst (λ (w : List ℕ). IsWordOf IsNumber address_text w v) (sym same) there)) values h
 
 -- three words and values
-pub shown_joined : (s p n : List ℕ) (values : List ℕ) → (((((s ++ 32 ∷ []) ++ p) ++ 32 ∷ []) ++ n) ++ behind_spaces values) ≡ join_with_byte 32 (s ∷ p ∷ n ∷ values_words values)
-shown_joined s p n values = sym (ap (λ (t : List ℕ). s ++ (32 ∷ (p ++ (32 ∷ t)))) (joined n values) ∙ simp append_assoc)
+pub shown_joined : (s p n : List ℕ) (values : List ℕ) → (((((s ++ 32 ∷ []) ++ p) ++ 32 ∷ []) ++ n) ++ spaced (values_words values)) ≡ join_with_byte 32 (s ∷ p ∷ n ∷ values_words values)
+shown_joined s p n values = sym (ap (λ (t : List ℕ). s ++ (32 ∷ (p ++ (32 ∷ t)))) (joined_spaced n (values_words values)) ∙ simp append_assoc)

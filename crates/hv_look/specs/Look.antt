@@ -1,6 +1,6 @@
 -- The words of a look at a VCPU.
 use Rattle.std.specs.Prelude.{◌≡◌, ℕ, ◌^◌, ◌<◌, List, [], ◌∷◌, ◌++◌, length, map, Result, MatchResult}
-use Rattle.std.specs.List.{AllByRecursion, join_with_byte, flat_map}
+use Rattle.std.specs.List.{AllByRecursion, join_with_byte}
 use Rattle.std.specs.Fmt.{decimal}
 use Rattle.hv_data.specs.declared.refusal.WordRefusal.{WordRefusal}
 use Rattle.hv_data.specs.Text.{address_text, state_text}
@@ -37,10 +37,6 @@ look_words l = state_text l.state ∷ decimal l.priority ∷ sliced_words (l.sli
 -- The words of a look stand one space apart.
 abbrev pub look_text : Look → List ℕ
 look_text l = join_with_byte 32 (look_words l)
-
--- Each value stands behind a space.
-abbrev pub behind_spaces : List ℕ → List ℕ
-behind_spaces values = flat_map (λ v. 32 ∷ address_text v) values
 
 -- Each of these has at most 64 bits.
 abbrev pub AreNumbers : List ℕ → Type 0

@@ -1,6 +1,7 @@
 //! Looks printed.
 ghost use Rattle.std.specs.Prelude.{◌≡◌, ◌++◌, OnOk, OnErr, IfOk};
-ghost use Rattle.hv_look.specs.Look.{csr_values, register_values, behind_spaces, look_text};
+ghost use Rattle.hv_data.specs.Data.{spaced};
+ghost use Rattle.hv_look.specs.Look.{csr_values, values_words, registers_words, look_text};
 
 use crate::look::{Csrs, Look, Registers};
 use hv_data::{push_address, push_state};
@@ -9,7 +10,7 @@ use std::alloc::{AllocError, Global};
 
 /// Appends values, each behind a space.
 fn push_values(alloc: Global, to: &mut Bytes, values: &[u64]) -> Result<(), AllocError>
-    ensures { OnOk result (to.new ≡ to.old ++ behind_spaces values.now) }
+    ensures { OnOk result (to.new ≡ to.old ++ spaced (values_words values.now)) }
 {
     for value in values {
         to.append(b" ")?;
@@ -19,7 +20,7 @@ fn push_values(alloc: Global, to: &mut Bytes, values: &[u64]) -> Result<(), Allo
 }
 
 fn push_csrs(alloc: Global, to: &mut Bytes, csrs: &Csrs) -> Result<(), AllocError>
-    ensures { OnOk result (to.new ≡ to.old ++ behind_spaces (csr_values csrs.now)) }
+    ensures { OnOk result (to.new ≡ to.old ++ spaced (values_words (csr_values csrs.now))) }
 {
     let values = [
         csrs.mstatus,
@@ -34,7 +35,7 @@ fn push_csrs(alloc: Global, to: &mut Bytes, csrs: &Csrs) -> Result<(), AllocErro
 }
 
 fn push_registers(alloc: Global, to: &mut Bytes, registers: &Registers) -> Result<(), AllocError>
-    ensures { OnOk result (to.new ≡ to.old ++ behind_spaces (register_values registers.now)) }
+    ensures { OnOk result (to.new ≡ to.old ++ spaced (registers_words registers.now)) }
 {
     push_values(alloc, to, &[registers.pc])?;
     push_values(alloc, to, &registers.x)?;

@@ -124,10 +124,6 @@ no_step_where_unnamed words behind first is none s rest h =
     let found : None ≡ Some (name_of s) = none ∙ ap name_spelled word_is ∙ spelled_back (name_of s) in
     cc found
 
--- what holds for one reason holds for what follows from it
-pub exits : {P : Type 0} (Q : Type 0) (e : WordRefusal) → (P → Q) → Because e P → Because e Q
-exits Q e more h = because_more {Q = Q} e more h
-
 -- words behind the same words
 pub behind : {whole words rest : List (List ℕ)} {word other : List ℕ} → whole ≡ word ∷ words → whole ≡ other ∷ rest → words ≡ rest
 behind e f = cc (e, f)

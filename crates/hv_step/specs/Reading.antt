@@ -108,7 +108,3 @@ AreByGuest words vcpu guest rest = AreData (Number8 vcpu ∷ guest_data guest) �
 -- Words are those of a guest by which a step is made, and these follow.
 abbrev pub AreGuest : List (List ℕ) → Option ByGuest → List (List ℕ) → Type 0
 AreGuest words guest rest = AreData (guest_data guest) × (words ≡ data_words (guest_data guest) ++ rest) × IsOver guest rest
-
--- Words begin with those of these written data, and these follow.
-abbrev pub HaveData : List (List ℕ) → List Datum → List (List ℕ) → Type 0
-HaveData words ds rest = AreData ds × (words ≡ data_words ds ++ rest)

@@ -1,10 +1,9 @@
 -- The data and the words of steps.
 use Rattle.std.specs.Prelude.{◌≡◌, ◌≢◌, ℕ, List, [], ◌∷◌, ◌++◌, Option, Some, None}
-use Rattle.std.specs.List.{flat_map}
 use Rattle.hv_name.specs.declared.name.StepName.{StepName}
 use Rattle.hv_name.specs.declared.name.StepName.TheVariants as name
 use Rattle.hv_name.specs.StepName.{name_word}
-use Rattle.hv_data.specs.Data.{Datum, Number, Number8, Address, Hex, Name, PathOf, Born, At, To, Towards, Accessed, AreData, data_words}
+use Rattle.hv_data.specs.Data.{Datum, Number, Number8, Address, Hex, Name, PathOf, Born, At, To, Towards, Accessed, AreData, data_words, spaced}
 use Rattle.hv_step.specs.declared.step.ByGuest.{ByGuest}
 use Rattle.hv_step.specs.declared.step.Step.{Step}
 use Rattle.hv_step.specs.declared.step.Step.TheVariants as step
@@ -105,10 +104,6 @@ step_data (step.Pin s) = Number8 s.row ∷ Number8 s.vcpu ∷ Born (Some s.gener
 -- The words of a step are its name and its data.
 abbrev pub step_words : Step → List (List ℕ)
 step_words s = name_word (name_of s) ∷ data_words (step_data s)
-
--- Each word behind a space.
-abbrev pub spaced : List (List ℕ) → List ℕ
-spaced words = flat_map (λ w. 32 ∷ w) words
 
 -- The text of a step is its words, one space apart.
 abbrev pub step_text : Step → List ℕ

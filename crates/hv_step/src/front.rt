@@ -2,9 +2,8 @@
 ghost use Rattle.std.specs.Prelude.{◌≡◌, [], ◌∷◌, ℕ, List, Option, Some, MatchBool, MatchResult};
 ghost use Rattle.hv_text.specs.declared.stage.Stage.{Stage};
 ghost use Rattle.hv_data.specs.declared.generation.Generation.{Generation};
-ghost use Rattle.hv_data.specs.Data.{Name, Born, At};
+ghost use Rattle.hv_data.specs.Data.{Name, Born, At, HaveData};
 ghost use Rattle.hv_data.specs.Reading.{Because};
-ghost use Rattle.hv_step.specs.Reading.{HaveData};
 
 use hv_data::{Generation, WordRefusal, take_generation, take_name, take_stage};
 use hv_text::{Bytes, Stage};

@@ -1,7 +1,7 @@
 //! Steps printed.
-ghost use Rattle.std.specs.Prelude.{◌≡◌, ◌++◌, [], ◌∷◌, Some, OnOk};
-ghost use Rattle.hv_data.specs.Data.{Number8, Address, Name, Born, At, Towards, data_words};
-ghost use Rattle.hv_step.specs.Words.{guest_data, step_data, spaced, step_text};
+ghost use Rattle.std.specs.Prelude.{◌≡◌, ◌++◌, [], ◌∷◌, Some, OnOk, OnErr};
+ghost use Rattle.hv_data.specs.Data.{Number8, Address, Name, Born, At, Towards, data_words, spaced};
+ghost use Rattle.hv_step.specs.Words.{guest_data, step_data, step_text};
 ghost use Rattle.hv_step.specs.declared.step.Step.TheVariants as step;
 
 use crate::name::step_name;
@@ -219,10 +219,19 @@ fn push_data(alloc: Global, to: &mut Bytes, step: &Step) -> Result<(), AllocErro
     }
 }
 
-/// Appends a step's text. At `Err` a part of it may stand there.
-pub fn print_step(alloc: Global, to: &mut Bytes, step: &Step) -> Result<(), AllocError>
+fn push_step(alloc: Global, to: &mut Bytes, step: &Step) -> Result<(), AllocError>
     ensures { OnOk result (to.new ≡ to.old ++ step_text step.now) }
 {
     push_name(to, step_name(step))?;
     push_data(alloc, to, step)
+}
+
+/// Appends a step's text. At `Err` nothing has changed.
+pub fn print_step(alloc: Global, to: &mut Bytes, step: &Step) -> Result<(), AllocError>
+    ensures ok { OnOk result (to.new ≡ to.old ++ step_text step.now) }
+    ensures err { OnErr result (to.new ≡ to.old) }
+{
+    let mut text = Bytes::from_vec(Vec::new(alloc));
+    push_step(alloc, &mut text, step)?;
+    to.append(text.as_slice())
 }

@@ -1,5 +1,6 @@
 use Rattle.std.proofs.lemmas.Result.{err_from_is_err_and}
-use Rattle.hv_answer.proofs.Laws.{because_more, no_second}
+use Rattle.hv_data.proofs.Composed.{because_more}
+use Rattle.hv_answer.proofs.Laws.{no_second}
 use Rattle.hv_answer.proofs.told.read_harts.Goals as goal
 
 pub returns-in_err-to : goal.returns-in_err-to

@@ -1,5 +1,6 @@
 use Rattle.std.proofs.lemmas.Result.{err_from_is_err_and}
-use Rattle.hv_answer.proofs.Laws.{because_more, no_harts}
+use Rattle.hv_data.proofs.Composed.{because_more}
+use Rattle.hv_answer.proofs.Laws.{no_harts}
 use Rattle.hv_answer.proofs.told.read_moved.Goals as goal
 
 pub returns-in_err-harts : goal.returns-in_err-harts

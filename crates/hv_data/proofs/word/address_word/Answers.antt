@@ -9,4 +9,4 @@ returns-in_default c = no_number_where_refused address_text address_back c.args.
 pub returns-then-ne : goal.returns-then-ne
 returns-then-ne c =
     no_number_where_other address_text address_back c.args.word.now c.in-Ok.number (sym c.in-Ok.ensures)
-    (λ is. differ c.as_slice.result.now c.args.word.now c.if-ne.ensures (c.as_slice.ensures ∙ c.in_ok-push_address.ensures ∙ ap (λ (t : List ℕ). t ++ address_text c.in-Ok.number) (c.from_vec-text.ensures ∙ c.new.ensures.items) ∙ is))
+    (λ is. differ c.as_slice.result.now c.args.word.now c.if-ne.ensures (c.as_slice.ensures ∙ c.in_ok-push_address.ensures.ok ∙ ap (λ (t : List ℕ). t ++ address_text c.in-Ok.number) (c.from_vec-text.ensures ∙ c.new.ensures.items) ∙ is))

@@ -7,5 +7,5 @@ use Rattle.hv_look.proofs.print.look_line.Goals as goal
 pub returns : goal.returns
 returns c =
     let l = c.args.look.now in
-    rw (c.in_ok-push_registers.ensures, c.in_ok-push_decimal-2.ensures.ok, c.in_ok-append-2.ensures.ok, c.in_ok-push_decimal.ensures.ok, c.in_ok-append.ensures.ok, c.in_ok-push_state.ensures, c.from_vec-line.ensures, c.new.ensures.items)
+    rw (c.in_ok-push_registers.ensures, c.in_ok-push_decimal-2.ensures.ok, c.in_ok-append-2.ensures.ok, c.in_ok-push_decimal.ensures.ok, c.in_ok-append.ensures.ok, c.in_ok-push_state.ensures.ok, c.from_vec-line.ensures, c.new.ensures.items)
     (shown_joined (state_text l.state) (decimal l.priority) (decimal l.slice) (register_values l.registers))

@@ -1,15 +1,16 @@
 use Rattle.std.proofs.lemmas.Result.{err_from_is_err_and}
+use Rattle.hv_data.proofs.Composed.{because_more}
 use Rattle.hv_name.specs.declared.name.StepName.TheVariants as name
 use Rattle.hv_step.specs.Reading.{AreNoArguments}
-use Rattle.hv_step.proofs.Fronts.{exits, behind}
+use Rattle.hv_step.proofs.Fronts.{behind}
 use Rattle.hv_step.proofs.region.read_write.Goals as goal
 
 pub returns-in_err-bytes : goal.returns-in_err-bytes
 returns-in_err-bytes c =
     let p = err_from_is_err_and c.from_residual-in_err-bytes.result c.from_residual-in_err-bytes.ensures.1 in
-    rw (p.1, p.2) (exits (AreNoArguments name.Write c.args.words.now) _ (λ none s rest h. none s.bytes _ (h.0.1.0, behind c.in_ok-path.ensures.1 h.1)) c.in_err-bytes.ensures)
+    rw (p.1, p.2) (because_more {Q = AreNoArguments name.Write c.args.words.now} _ (λ none s rest h. none s.bytes _ (h.0.1.0, behind c.in_ok-path.ensures.1 h.1)) c.in_err-bytes.ensures)
 
 pub returns-in_err-path : goal.returns-in_err-path
 returns-in_err-path c =
     let p = err_from_is_err_and c.from_residual.result c.from_residual.ensures.1 in
-    rw (p.1, p.2) (exits (AreNoArguments name.Write c.args.words.now) _ (λ none s rest h. none s.path _ (h.0.0, h.1)) c.in_err-path.ensures)
+    rw (p.1, p.2) (because_more {Q = AreNoArguments name.Write c.args.words.now} _ (λ none s rest h. none s.path _ (h.0.0, h.1)) c.in_err-path.ensures)
