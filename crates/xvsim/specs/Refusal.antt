@@ -38,7 +38,7 @@ pub record AreTooManyBytes (bytes : List ℕ) (name : LimitName) (number : ℕ) 
 abbrev pub IsOverLimit : List ℕ → LimitName → ℕ → Type 0
 IsOverLimit bytes name number = AreTooManyBytes bytes name number ⊎ IsDueInside bytes (refusal.Limit name number)
 
--- what the bytes have to be for a refusal; the cases exclude each other, but for faults and running out of memory
+-- what the bytes have to be for a refusal, if it is no fault and no want of memory
 abbrev pub IsDueForBytes : List ℕ → InputRefusal → Type 0
 IsDueForBytes bytes refusal.ReadFault = Unit {0}
 IsDueForBytes bytes (refusal.BadBundle offset) = (length bytes ≤ most_bytes) × IsBadAt bytes offset
