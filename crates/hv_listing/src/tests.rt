@@ -1,7 +1,7 @@
 //! Lists printed and read.
 use super::*;
 use hv_data::WordRefusal;
-use hv_text::Bytes;
+use hv_text::{AddressType, Bytes, Stage};
 use std::alloc::Global;
 use std::test::Fail;
 
@@ -86,5 +86,40 @@ fn reads_windows_as_they_are_printed(rt: HostRuntime) -> Result<(), Fail> {
     }
     lists_are_unambiguous();
     lists_have_no_space();
+    Ok(())
+}
+
+#[test]
+fn prints_an_alias_behind_its_owner(rt: HostRuntime) -> Result<(), Fail> {
+    let mut items = Vec::new(rt.alloc());
+    items.push(ListedWindow {
+        owner: 1,
+        target: 0,
+        address_type: AddressType::Io,
+        base: 0x100,
+        size: 16,
+        offset: 0,
+    })?;
+    let windows = WindowList::from_vec(items);
+    assert_eq!(rt; windows.as_slice().len(), 1);
+    let mut printed = Bytes::from_vec(Vec::new(rt.alloc()));
+    print_windows(rt.alloc(), &mut printed, &windows)?;
+    assert_eq!(rt; printed.as_slice(), b"1:0:io:0x100:0x10:0x0".as_slice());
+    Ok(())
+}
+
+#[test]
+fn prints_a_guest_with_its_slot(rt: HostRuntime) -> Result<(), Fail> {
+    let mut items = Vec::new(rt.alloc());
+    items.push(ListedGuest {
+        name: Bytes::from_vec(Vec::from_slice(rt.alloc(), b"g0")?),
+        slot: 2,
+        stage: Stage::Made,
+    })?;
+    let guests = GuestList::from_vec(items);
+    assert_eq!(rt; guests.as_slice().len(), 1);
+    let mut printed = Bytes::from_vec(Vec::new(rt.alloc()));
+    print_guests(rt.alloc(), &mut printed, &guests)?;
+    assert_eq!(rt; printed.as_slice(), b"g0:2:Made".as_slice());
     Ok(())
 }

@@ -15,8 +15,9 @@ fn reads_what_it_prints(rt: HostRuntime) -> Result<(), Fail> {
         Ok(look) => {
             assert_eq!(rt; look.registers.x[4], 0x1000_0000);
             assert_eq!(rt; look.registers.csrs.mstatus, 0x1800);
+            let boxed = BoxedLook::new(rt.alloc(), look)?;
             let mut printed = Bytes::from_vec(Vec::new(rt.alloc()));
-            print_look(rt.alloc(), &mut printed, &look)?;
+            print_look(rt.alloc(), &mut printed, boxed.as_look())?;
             assert_eq!(rt; printed.as_slice(), RUNNING);
         }
         Err(_) => assert!(rt; false),
