@@ -5,7 +5,6 @@ use Rattle.std.specs.List.{AllByRecursion, join_with_byte}
 use Rattle.std.specs.Fmt.{decimal}
 use Rattle.std.proofs.lemmas.Bool.{false≢true}
 use Rattle.std.proofs.lemmas.Fmt.{decimal_injective}
-use Rattle.std.proofs.lemmas.List.{append-nil}
 use Rattle.std.proofs.Math.Seq.{take-nil}
 use Rattle.std.proofs.lemmas.List.Splits.{join_with_byte-slice_split}
 use Rattle.hv_text.specs.Front.{IsFree}
@@ -13,10 +12,10 @@ use Rattle.hv_data.specs.Data.{data_words}
 use Rattle.hv_data.specs.Reading.{parts_at}
 use Rattle.hv_data.proofs.DataLemmas.{data_free}
 use Rattle.hv_data.proofs.Foreign.{IsForeign, space_foreign, decimal_free, apart, lower_is_name}
-use Rattle.hv_data.proofs.Splits.{joined_parts}
+use Rattle.hv_data.proofs.Splits.{joined_parts, joined_spaced}
 use Rattle.hv_name.specs.StepName.{name_word}
 use Rattle.hv_step.specs.declared.step.Step.{Step}
-use Rattle.hv_step.specs.Words.{name_of, step_data, step_words, step_text, spaced, IsStep, BeginWithStep, BeginWithNoStep, IsOneStep}
+use Rattle.hv_step.specs.Words.{name_of, step_data, step_words, step_text, IsStep, BeginWithStep, BeginWithNoStep, IsOneStep}
 use Rattle.hv_step.proofs.Fronts.{same_step}
 use Rattle.hv_answer.specs.declared.reply.Reply.{Reply}
 use Rattle.hv_answer.specs.Reply.{reply_words, reply_text, IsReplyOf}
@@ -44,11 +43,6 @@ same_actor (Terminal m) (Terminal n) h k e = ap Terminal (decimal_injective m n 
 actor_free : (d : ℕ) (actor : ActorId) → IsForeign d → IsActor actor → IsFree d (actor_text actor)
 actor_free d (Hart n) out h = (apart d 104 out (lower_is_name 104 (omega arith, omega arith)), decimal_free d n out (omega arith))
 actor_free d (Terminal n) out h = (apart d 116 out (lower_is_name 116 (omega arith, omega arith)), decimal_free d n out (omega arith))
-
--- words joined are the first, and each other behind a space
-joined_spaced : (w : List ℕ) (ws : List (List ℕ)) → join_with_byte 32 (w ∷ ws) ≡ w ++ spaced ws
-joined_spaced w [] = sym (append-nil w)
-joined_spaced w (v ∷ ws) = ap (λ (t : List ℕ). w ++ 32 ∷ t) (joined_spaced v ws)
 
 -- words joined to words behind them
 joined_behind : (w v : List ℕ) (ws vs : List (List ℕ)) → join_with_byte 32 ((w ∷ ws) ++ v ∷ vs) ≡ join_with_byte 32 (w ∷ ws) ++ 32 ∷ join_with_byte 32 (v ∷ vs)

@@ -1,9 +1,8 @@
 //! Events read from their lines.
-ghost use Rattle.std.specs.Prelude.{◌≡◌, ◌≢◌, ◌∷◌, List, ℕ, Ok, Err, MatchOption, MatchResult, IfOk};
+ghost use Rattle.std.specs.Prelude.{◌≡◌, Ok, Err, MatchResult, IfOk};
 ghost use Rattle.hv_data.specs.Reading.{Because};
 ghost use Rattle.hv_event.specs.declared.event.Event.{Event};
 ghost use Rattle.hv_event.specs.Line.{event_text};
-ghost use Rattle.hv_event.specs.Words.{arrow};
 ghost use Rattle.hv_event.specs.Written.{IsWritten};
 ghost use Rattle.hv_event.specs.Reading.{AreEventWords, AreRead, IsUnlessMemory, IsNoEventLine};
 
@@ -11,23 +10,10 @@ use crate::actor::actor_word;
 use crate::event::Event;
 use crate::refusal::LineRefusal;
 use hv_answer::read_reply;
-use hv_data::{WordRefusal, number_word, split_at_byte};
+use hv_data::{WordRefusal, behind_word, number_word, split_at_byte};
 use hv_step::{read_step, step_name};
 use hv_text::Bytes;
 use std::alloc::Global;
-
-/// The words behind an arrow.
-fn behind_arrow(words: &[Bytes]) -> Option<&[Bytes]>
-    ensures { MatchOption result
-        ((rest : List (List ℕ)) → words.now ≢ arrow ∷ rest)
-        (λ rest. words.now ≡ arrow ∷ rest.now) }
-{
-    let (first, rest) = words.split_first()?;
-    if first.as_slice() != b"->".as_slice() {
-        return None;
-    }
-    Some(rest)
-}
 
 /// The event of words.
 fn read_words(alloc: Global, words: &[Bytes]) -> Result<Event, WordRefusal>
@@ -42,7 +28,7 @@ fn read_words(alloc: Global, words: &[Bytes]) -> Result<Event, WordRefusal>
     let actor = actor_word(alloc, actor.as_slice())?;
     let index = number_word(alloc, index.as_slice())?;
     let (step, behind) = read_step(alloc, rest)?;
-    let Some(reply) = behind_arrow(behind) else {
+    let Some(reply) = behind_word(behind, b"->") else {
         return Err(WordRefusal::BadWord);
     };
     let reply = read_reply(alloc, step_name(&step), reply)?;

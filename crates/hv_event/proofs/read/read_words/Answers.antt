@@ -3,9 +3,9 @@ use Rattle.hv_data.proofs.Composed.{because_more}
 use Rattle.hv_event.proofs.Events.{behind_three, no_event_without_arrow, no_event_without_reply}
 use Rattle.hv_event.proofs.read.read_words.Goals as goal
 
-pub returns-in_default-behind_arrow : goal.returns-in_default-behind_arrow
-returns-in_default-behind_arrow c =
-    no_event_without_arrow c.args.words.now _ c.in_ok-step.behind.now c.in_ok-step.step (behind_three c.args.words.now) c.in_ok-step.ensures c.in_default-behind_arrow.ensures
+pub returns-in_default-behind_word : goal.returns-in_default-behind_word
+returns-in_default-behind_word c =
+    no_event_without_arrow c.args.words.now _ c.in_ok-step.behind.now c.in_ok-step.step (behind_three c.args.words.now) c.in_ok-step.ensures c.in_default-behind_word.ensures
 
 pub returns-in_err-reply : goal.returns-in_err-reply
 returns-in_err-reply c =
