@@ -23,3 +23,6 @@ pub use step::{
     Preempt, Regions, Reset, Rest, Resume, Rm, Run, Sample, Stage, Step, Take, Tick, Vadd, Vdrop,
     Write,
 };
+
+#[cfg(test)]
+mod tests;
