@@ -9,12 +9,12 @@ use Rattle.hv_cause.specs.declared.Cause.{Cause}
 use Rattle.hv_cause.specs.declared.Cause.TheVariants as cause
 use Rattle.hv_cause.specs.Cause.{cause_word, cause_spelled}
 use Rattle.hv_data.specs.declared.refusal.WordRefusal.{WordRefusal}
-use Rattle.hv_data.specs.declared.refusal.WordRefusal.TheVariants.{BadWord, Memory}
 use Rattle.hv_data.specs.declared.state.StateName.{StateName}
 use Rattle.hv_data.specs.Text.{stage_text, state_name_text}
 use Rattle.hv_data.specs.Written.{IsNumber, IsNumber8, IsAny}
 use Rattle.hv_data.specs.Reading.{Because}
 use Rattle.hv_data.specs.Data.{Number, Number8, At, Named, HaveNoSpace}
+use Rattle.hv_data.proofs.Composed.{because_more}
 use Rattle.hv_data.proofs.DataLemmas.{same_stage, same_state_name, free_by_test, data_free}
 use Rattle.hv_refusal.specs.declared.refusal.Refusal.{Refusal}
 use Rattle.hv_refusal.specs.declared.refusal.Refusal.TheVariants as refusal
@@ -103,10 +103,6 @@ words_of telling.GuestState rest why h = subst (AreRefusalWords _) (sym h.1) (tt
 words_of telling.BadNode rest why h = subst (AreRefusalWords _) (sym h.2) (h.3, ap (λ (ws : List (List ℕ)). telling_word telling.BadNode ∷ ws) h.4)
 words_of telling.Overlap rest why h = subst (AreRefusalWords _) (sym h.1) (h.2.0, ap (λ (ws : List (List ℕ)). telling_word telling.Overlap ∷ ws) h.2.1)
 words_of telling.WrongState rest why h = subst (AreRefusalWords _) (sym h.1) (tt, ap (λ (ws : List (List ℕ)). telling_word telling.WrongState ∷ ws) h.2.1)
-
-because_more : {P Q : Type 0} (e : WordRefusal) → (P → Q) → Because e P → Because e Q
-because_more BadWord more h = more h
-because_more (Memory e) more h = tt
 
 -- what the words behind a name are read as is what all words are
 pub refusal_read : (words rest : List (List ℕ)) (first : List ℕ) (name : Telling) (r : Result Refusal WordRefusal) → words ≡ first ∷ rest → bare_spelled first ≡ None → telling_spelled first ≡ Some name → first ≡ telling_word name
