@@ -1,5 +1,5 @@
 -- What holds of the words of what steps give.
-use Rattle.std.proofs.Common.{◌≡◌, ◌≢◌, ℕ, ◌^◌, ◌<◌, ◌≤◌, Bool, true, false, not, eqb, List, [], ◌∷◌, ◌++◌, length, refl, sym, ap, subst, ◌∙◌, arith}
+use Rattle.std.proofs.Common.{◌≡◌, ℕ, ◌^◌, ◌<◌, ◌≤◌, Bool, true, false, not, eqb, List, [], ◌∷◌, ◌++◌, length, refl, sym, ap, ◌∙◌, arith}
 use Rattle.std.specs.Prelude.{codes, if◌then◌else◌, Option, Some, None, Result, Ok, Err}
 use Rattle.std.specs.List.{list_all}
 use Rattle.std.specs.Fmt.{decimal}
@@ -19,7 +19,6 @@ use Rattle.hv_listing.proofs.Entry.{same_guests, same_windows, guests_free, wind
 use Rattle.hv_name.specs.declared.name.StepName.{StepName}
 use Rattle.hv_name.specs.StepName.{is_word}
 use Rattle.hv_refusal.specs.declared.refusal.Refusal.{Refusal}
-use Rattle.hv_refusal.specs.Refusal.{refusal_words}
 use Rattle.hv_refusal.proofs.Refusals.{same_refusal, refusal_free}
 use Rattle.hv_answer.specs.declared.reply.Outcome.{Outcome}
 use Rattle.hv_answer.specs.declared.reply.Outcome.TheVariants as outcome

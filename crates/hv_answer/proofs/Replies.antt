@@ -1,6 +1,6 @@
 -- What holds of the words of replies.
 use Rattle.std.proofs.Common.{◌≡◌, ℕ, ◌<◌, List, [], ◌∷◌, length, refl, sym, ap, subst, ◌∙◌, arith}
-use Rattle.std.specs.Prelude.{codes, Option, Some, None, Result}
+use Rattle.std.specs.Prelude.{codes, Option, Result}
 use Rattle.hv_data.specs.declared.changes.SignalChanges.{SignalChanges}
 use Rattle.hv_data.specs.declared.generation.Generation.{Generation}
 use Rattle.hv_data.specs.declared.state.State.{State}

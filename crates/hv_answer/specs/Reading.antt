@@ -3,11 +3,8 @@ use Rattle.std.specs.Prelude.{◌≡◌, ℕ, List, Result, MatchResult}
 use Rattle.hv_data.specs.declared.refusal.WordRefusal.{WordRefusal}
 use Rattle.hv_data.specs.Reading.{Because}
 use Rattle.hv_name.specs.declared.name.StepName.{StepName}
-use Rattle.hv_refusal.specs.declared.refusal.Refusal.{Refusal}
 use Rattle.hv_answer.specs.declared.reply.Reply.{Reply}
-use Rattle.hv_refusal.specs.Refusal.{refusal_words}
-use Rattle.hv_answer.specs.Refused.{MayRefuse}
-use Rattle.hv_answer.specs.Reply.{given_words, IsAnswer, reply_words, IsReplyOf}
+use Rattle.hv_answer.specs.Reply.{reply_words, IsReplyOf}
 
 -- The words are those of this written value.
 abbrev pub AreWordsOf : {A : Type 0} → (A → Type 0) → (A → List (List ℕ)) → List (List ℕ) → A → Type 0
