@@ -8,8 +8,8 @@ ghost use Rattle.hv_answer.specs.Reply.{reply_words, IsReplyOf};
 ghost use Rattle.hv_answer.specs.Reading.{AreReplyWords};
 
 use crate::given::{
-    given_bytes, given_changes, given_generation, given_names, given_nothing,
-    given_number, given_slice, given_windows, guests_alone, is_alone, number_alone,
+    given_bytes, given_changes, given_generation, given_names, given_nothing, given_number,
+    given_slice, given_windows, guests_alone, is_alone, number_alone,
 };
 use crate::refused::refusal_of;
 use crate::reply::Reply;
