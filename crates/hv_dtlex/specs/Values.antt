@@ -2,8 +2,9 @@
 use Rattle.std.specs.Prelude.{ℕ, zero, suc, ◌+◌, ◌^◌, List, [], ◌∷◌, length, drop, take, ◌&&◌, ◌==◌, nat_eq, nat_lt, if◌then◌else◌, Option, Some, None, codes}
 use Rattle.std.specs.Char.{is_digit}
 use Rattle.std.specs.Option.{option_map, option_and_then, option_map_or}
-use Rattle.std.specs.List.{take_while, prefix_len, starts_with}
+use Rattle.std.specs.List.{take_while, starts_with}
 use Rattle.std.specs.Str.Parse.{digits_value}
+use Rattle.hv_text.specs.Number.{digits_front}
 
 -- the digits of a radix in front, of which at most so many are taken
 abbrev pub front_digits : ℕ → ℕ → List ℕ → List ℕ
@@ -12,7 +13,7 @@ front_digits radix most text = take_while (λ c. is_digit c radix) (take most te
 -- the value of one or more digits, where a cell of 32 bits holds it
 unfoldable pub cell_of : ℕ → List ℕ → Option ℕ
 cell_of radix digits =
-    if nat_lt 0 (length digits) && ((prefix_len (λ c. is_digit c radix) digits == length digits) && nat_lt (digits_value radix digits) (2 ^ 32))
+    if nat_lt 0 (length digits) && ((digits_front radix digits == length digits) && nat_lt (digits_value radix digits) (2 ^ 32))
     then Some (digits_value radix digits) else None
 
 -- the value of a number: hexadecimal behind `0x`, octal behind another `0`, decimal else

@@ -1,25 +1,10 @@
 //! Numbers as text.
 ghost use Rattle.std.specs.Prelude.{◌≡◌, ◌^◌, ◌<◌, ◌≤◌, length, IsSome};
 ghost use Rattle.std.specs.Option.{SomeIff};
-ghost use Rattle.std.specs.List.{prefix_len};
-ghost use Rattle.std.specs.Char.{is_digit};
 ghost use Rattle.std.specs.Str.Parse.{AllDigits, digits_value};
 ghost use Rattle.hv_dtlex.specs.Values.{front_digits, cell_of, value_of_number};
 
-/// How many digits of the radix stand in front.
-fn digits_len(text: &[u8], radix: u32) -> usize
-    requires low { 2 ≤ radix }
-    requires high { radix ≤ 16 }
-    ensures run { result ≡ prefix_len (λ c. is_digit c radix) text.now }
-    ensures within { result ≤ length text.now }
-{
-    for (at, byte) in text.iter().enumerate() {
-        if !char::from(*byte).is_digit(radix) {
-            return at;
-        }
-    }
-    text.len()
-}
+use hv_text::{digits_len, digits_value};
 
 /// The digits of the radix in front, at most so many.
 pub fn front_digits(text: &[u8], radix: u32, most: usize) -> &[u8]
@@ -35,18 +20,13 @@ pub fn front_digits(text: &[u8], radix: u32, most: usize) -> &[u8]
 }
 
 /// The value of digits, unless it passes 32 bits.
-pub fn digits_value(digits: &[u8], radix: u32) -> Option<u32>
+fn cell_value(digits: &[u8], radix: u32) -> Option<u32>
     requires low { 2 ≤ radix }
     requires high { radix ≤ 16 }
     requires each { AllDigits radix digits.now }
     ensures { SomeIff result (digits_value radix digits.now < 2 ^ 32) (digits_value radix digits.now) }
 {
-    let mut value = 0u32;
-    for byte in digits {
-        let digit = char::from(*byte).to_digit(radix)?;
-        value = value.checked_mul(radix)?.checked_add(digit)?;
-    }
-    Some(value)
+    u32::try_from(digits_value(digits, radix)?).ok()
 }
 
 /// The value of one or more digits of the radix, unless it passes 32 bits or another byte stands there.
@@ -64,7 +44,7 @@ pub fn cell_of(digits: &[u8], radix: u32) -> Option<u32>
     if len == 0 {
         return None;
     }
-    digits_value(digits, radix)
+    cell_value(digits, radix)
 }
 
 /// The value of a number, where the text is one of 32 bits.

@@ -3,7 +3,8 @@ ghost use Rattle.std.specs.Prelude.{◌≡◌, ◌<◌, ◌≤◌, ◌+◌, leng
 ghost use Rattle.std.specs.Str.Parse.{AllDigits};
 ghost use Rattle.hv_dtlex.specs.Values.{escaped, digits_escape, escape, piece, string_len, string_bytes};
 
-use crate::digits::{digits_value, front_digits};
+use crate::digits::front_digits;
+use hv_text::digits_value;
 use std::alloc::{AllocError, Global};
 
 fn escaped(letter: u8) -> u8

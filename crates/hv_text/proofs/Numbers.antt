@@ -7,8 +7,7 @@ use Rattle.std.proofs.lemmas.Str.Parse.{digit_from_value}
 use Rattle.std.proofs.lemmas.Fmt.{decimal_is_IsNumeral}
 use Rattle.std.specs.Fmt.{decimal}
 use Rattle.std.specs.List.{starts_with}
-use Rattle.std.proofs.lemmas.List.Sums.{prefix_len-le-length}
-use Rattle.std.specs.Char.{digit_value, is_digit}
+use Rattle.std.specs.Char.{digit_value}
 use Rattle.hv_text.specs.declared.number.NumberRefusal.TheVariants.{TooLarge}
 use Rattle.hv_text.specs.Number.{digits_front, number_in, number_of}
 use Rattle.std.specs.Str.Parse.{AllDigits, digits_value, digits_value_after}
@@ -37,6 +36,7 @@ passes radix value i ds lt each pos =
     let s = step radix value i ds lt each in
     omega (arith, s.total, no_less radix (value * radix + digit_value (get_or ds i 0)) (drop (suc i) ds) pos)
 
+-- a run of digits has digits only
 pub each_digit : (radix : ℕ) (ds : List ℕ) → digits_front radix ds ≡ length ds → AllDigits radix ds
 each_digit radix [] e = tt
 each_digit radix (d ∷ ds) e = elim (cases_lt (digit_value d) radix) [
@@ -60,9 +60,6 @@ number_in_is radix start ds (Some n) e some h =
     let there : ltb 0 (digits_front radix ds) ≡ true = lt-ltb _ _ (omega arith) in
     let fits : ltb (digits_value radix ds) (2 ^ 64) ≡ true = lt-ltb _ _ h.0 in
     rw (whole, there, fits, h.1) refl
-
-pub front_within : (radix : ℕ) (ds : List ℕ) → digits_front radix ds ≤ length ds
-front_within radix ds = prefix_len-le-length (λ c. is_digit c radix) ds
 
 pub front_all : (radix : ℕ) (ds : List ℕ) → AllDigits radix ds → digits_front radix ds ≡ length ds
 front_all radix [] each = refl

@@ -17,6 +17,8 @@ fn numbers_both_ways(rt: HostRuntime) -> Result<(), Fail> {
     for (text, number) in cases {
         assert_eq!(rt; read_number(text), number);
     }
+    assert_eq!(rt; digits_len(b"12a", 10), 2);
+    assert_eq!(rt; digits_value(b"fF", 16), Some(255));
     let mut text = Bytes::from_vec(Vec::new(rt.alloc()));
     assert!(rt; text.is_empty());
     push_decimal(rt.alloc(), &mut text, 90)?;

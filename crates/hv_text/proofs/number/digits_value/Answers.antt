@@ -1,7 +1,7 @@
 use Rattle.std.proofs.Common.{arith, ap, ◌∙◌}
 use Rattle.std.specs.Char.{digit_value}
-use Rattle.hv_dtlex.proofs.Numbers.{passes}
-use Rattle.hv_dtlex.proofs.digits.digits_value.Goals as goal
+use Rattle.hv_text.proofs.Numbers.{passes}
+use Rattle.hv_text.proofs.number.digits_value.Goals as goal
 
 pub returns-in_err-checked_mul : goal.returns-in_err-checked_mul
 returns-in_err-checked_mul c =
