@@ -57,3 +57,14 @@ Says (Some text) said = SaysBoard text said
 Says None (Ok board) = IsBare board
 Says None (Err (Memory e)) = Unit {0}
 Says None (Err refusal) = ⊥
+
+-- the refusal is want of memory
+abbrev pub IsWantOfMemory : BoardRefusal → Type 0
+IsWantOfMemory (Memory e) = Unit {0}
+IsWantOfMemory why = ⊥
+
+-- two refusals are one, unless one is want of memory
+abbrev pub AreOneRefusal : BoardRefusal → BoardRefusal → Type 0
+AreOneRefusal (Memory e) other = Unit {0}
+AreOneRefusal one (Memory e) = Unit {0}
+AreOneRefusal one other = one ≡ other

@@ -5,10 +5,12 @@
 #![tactic(auto)]
 
 mod board;
+mod law;
 mod read;
 mod refusal;
 
 pub use board::{Board, Fault};
+pub use law::host_trees_are_unambiguous;
 pub use read::read_board;
 pub use refusal::BoardRefusal;
 

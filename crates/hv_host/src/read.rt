@@ -1,10 +1,10 @@
 //! Host trees read as boards.
-ghost use Rattle.std.specs.Prelude.{◌≡◌, ◌≢◌, ◌≤◌, length, Some, None, Err, IfOk, MatchResult};
+ghost use Rattle.std.specs.Prelude.{◌≢◌, ◌≤◌, length, Some, None, Err, IfOk, MatchResult};
 ghost use Rattle.std.specs.Option.{option_copied};
 ghost use Rattle.hv_plan.specs.Guests.{guest_node};
 ghost use Rattle.hv_plan.specs.Settings.{IsHost};
 ghost use Rattle.hv_host.specs.Boards.{IsPlanned, ArePlanned, IsBare, SaysBoard, Says};
-ghost use Rattle.hv_dts.specs.Reading.{IsSourceOf, IsRefusedAt};
+ghost use Rattle.hv_dts.specs.Reading.{IsSourceOf};
 
 use crate::board::{Board, Fault};
 use crate::refusal::BoardRefusal;
@@ -14,10 +14,10 @@ use hv_plan::{GuestPlan, Host, HostRefusal, PlanRefusal, host_settings, plan_gue
 use hv_text::Bytes;
 use std::alloc::{AllocError, Global};
 
-/// The host without a tree.
+/// The harts of a host that has no tree.
 const DEFAULT_HARTS: u32 = 2;
 
-/// The turns of each hart without a tree.
+/// The turns of each hart of a host that has no tree.
 const DEFAULT_TURNS: u32 = 1000;
 
 /// The plan of the guest of a name that the tree has, or what is wrong with it.

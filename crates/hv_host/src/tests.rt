@@ -72,5 +72,6 @@ fn refuses_what_is_no_host_tree(rt: HostRuntime) -> Result<(), Fail> {
         return Ok(());
     };
     assert_eq!(rt; path.as_slice(), b"/areas/a".as_slice());
+    host_trees_are_unambiguous();
     Ok(())
 }
