@@ -8,7 +8,7 @@ use Rattle.hv_data.specs.declared.changes.SignalChanges.{SignalChanges}
 use Rattle.hv_data.specs.declared.generation.Generation.{Generation}
 use Rattle.hv_data.specs.Text.{address_text, names_text, bit_text}
 use Rattle.hv_data.specs.Written.{IsNumber, IsNumber8, AreBytes, AreListedNames, AreChanges, IsState, IsAny}
-use Rattle.hv_data.specs.Reading.{BeginWith}
+use Rattle.hv_data.specs.Reading.{AreWordsOf, BeginWith}
 use Rattle.hv_data.specs.Data.{Datum, Number, Number8, Address, Hex, Names, StateOf, Changed, kinds_of, AreData, data_words, HaveNoSpace}
 use Rattle.hv_data.proofs.DataLemmas.{same_data, data_free, free_by_test}
 use Rattle.hv_text.specs.Front.{IsFree}
@@ -33,7 +33,6 @@ use Rattle.hv_answer.specs.Payload.{accessed_words, harts_words, moved_words, sa
 use Rattle.hv_answer.specs.Payload.{IsNumber32, IsBorn, IsOutcome, IsFetched, IsAccessed, AreHarts, IsMoved, IsSampled, IsMaybe}
 use Rattle.hv_answer.specs.Refused.{MayRefuse}
 use Rattle.hv_answer.specs.Reply.{refused_words, given_words, IsAnswer}
-use Rattle.hv_answer.specs.Reading.{AreWordsOf}
 
 -- a number of more than 32 bits is no shorter one
 pub no_long_number : (words : List (List ℕ)) (given : ℕ) → AreWordsOf IsNumber number_words words given → 2 ^ 32 ≤ given → (n : ℕ) → AreWordsOf IsNumber32 number_words words n → ⊥
@@ -86,7 +85,7 @@ abbrev lacks_space : List ℕ → Bool
 lacks_space text = list_all (λ b. not (eqb b 32)) text
 
 -- a word in front changes nothing
-led_law : (A : Type 0) (good : A → Type 0) (shown : A → List (List ℕ)) (word : List ℕ) → lacks_space word ≡ true → Law A good shown → Law A good (λ x. word ∷ shown x)
+pub led_law : (A : Type 0) (good : A → Type 0) (shown : A → List (List ℕ)) (word : List ℕ) → lacks_space word ≡ true → Law A good shown → Law A good (λ x. word ∷ shown x)
 led_law A good shown word lacks law = record {
   same = λ x y h k e. law.same x y h k (cc e);
   free = λ x h. (free_by_test 32 word lacks, law.free x h);

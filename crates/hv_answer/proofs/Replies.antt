@@ -31,7 +31,7 @@ use Rattle.hv_answer.specs.Payload.{accessed_words, moved_words, sampled_words, 
 use Rattle.hv_answer.specs.Payload.{IsNumber32, IsBorn, IsFetched, IsAccessed, IsMoved, IsSampled, IsMaybe}
 use Rattle.hv_answer.specs.Refused.{MayRefuse}
 use Rattle.hv_answer.specs.Reply.{refused_words, given_words, IsAnswer, reply_words, IsMade, IsReplyOf}
-use Rattle.hv_answer.proofs.Laws.{Law, nothing_law, bytes_law, names_law, guests_law, windows_law, number_law, slice_law, changes_law, state_law, generation_law, ticked_law}
+use Rattle.hv_answer.proofs.Laws.{Law, led_law, nothing_law, bytes_law, names_law, guests_law, windows_law, number_law, slice_law, changes_law, state_law, generation_law, ticked_law}
 use Rattle.hv_answer.proofs.Laws.{accessed_law, moved_law, sampled_law, fetched_law, pinned_law, maybe_law, refused_law, given_law}
 
 -- replies of one form with the same words are one, and their words have no space
@@ -65,16 +65,7 @@ long_fetched f = longer f.outcome
     longer (outcome.Trap c) = omega arith
 
 look_law : Law Look IsLook (λ l. codes "ok" ∷ look_words l)
-look_law = record {
-  same = λ x y h k e. same_look x y h k (cc e);
-  free = λ x h. (free_by_test 32 (codes "ok") refl, look_free x h);
-}
-
-guests_reply_law : Law (List ListedGuest) AreGuests (λ g. codes "ok" ∷ guests_words g)
-guests_reply_law = record {
-  same = λ x y h k e. guests_law.same x y h k (cc e);
-  free = λ x h. (free_by_test 32 (codes "ok") refl, guests_law.free x h);
-}
+look_law = led_law Look IsLook look_words (codes "ok") refl (record { same = same_look; free = look_free })
 
 -- the words of a step's replies
 plain : (n : StepName) → IsPlain (IsReplyOf n)
@@ -88,7 +79,7 @@ plain name.Mkdir = made (Result (Unit {0}) Refusal) (IsAnswer IsAny name.Mkdir) 
 plain name.Rm = made (Result (Unit {0}) Refusal) (IsAnswer IsAny name.Rm) (given_words no_words) reply.Rm (λ x. refl) (given_law (Unit {0}) IsAny no_words name.Rm nothing_law)
 plain name.Write = made (Result (Unit {0}) Refusal) (IsAnswer IsAny name.Write) (given_words no_words) reply.Write (λ x. refl) (given_law (Unit {0}) IsAny no_words name.Write nothing_law)
 plain name.Asm = made (Result ℕ Refusal) (IsAnswer IsNumber name.Asm) (given_words number_words) reply.Asm (λ x. refl) (given_law ℕ IsNumber number_words name.Asm number_law)
-plain name.Guests = made (List ListedGuest) AreGuests (λ g. codes "ok" ∷ guests_words g) reply.Guests (λ x. refl) guests_reply_law
+plain name.Guests = made (List ListedGuest) AreGuests (λ g. codes "ok" ∷ guests_words g) reply.Guests (λ x. refl) (led_law (List ListedGuest) AreGuests guests_words (codes "ok") refl guests_law)
 plain name.Name = made (Result Generation Refusal) (IsAnswer IsBorn name.Name) (given_words generation_words) reply.Name (λ x. refl) (given_law Generation IsBorn generation_words name.Name generation_law)
 plain name.Stage = made (Result (Unit {0}) Refusal) (IsAnswer IsAny name.Stage) (given_words no_words) reply.Stage (λ x. refl) (given_law (Unit {0}) IsAny no_words name.Stage nothing_law)
 plain name.Add = made (Result SignalChanges Refusal) (IsAnswer AreChanges name.Add) (given_words changes_words) reply.Add (λ x. refl) (given_law SignalChanges AreChanges changes_words name.Add changes_law)

@@ -1,11 +1,10 @@
 //! What steps give, read from words.
-ghost use Rattle.std.specs.Prelude.{◌≡◌, ◌≢◌, ◌∷◌, [], List, ℕ, IsTrue, ◌↔◌, MatchOption, MatchResult};
-ghost use Rattle.hv_data.specs.Reading.{Because};
+ghost use Rattle.std.specs.Prelude.{◌≡◌, ◌≢◌, ◌∷◌, [], List, ℕ, IsTrue, ◌↔◌, MatchOption};
+ghost use Rattle.hv_data.specs.Reading.{ReadsWords};
 ghost use Rattle.hv_data.specs.Written.{IsNumber, AreBytes, AreListedNames, AreChanges, IsAny};
 ghost use Rattle.hv_listing.specs.Listing.{AreGuests, AreWindows};
 ghost use Rattle.hv_answer.specs.Payload.{no_words, bytes_words, names_words, guests_words, windows_words, number_words, changes_words, generation_words, IsNumber32, IsBorn};
 ghost use Rattle.hv_answer.specs.Reply.{given_words, IsAnswer};
-ghost use Rattle.hv_answer.specs.Reading.{ReadsWords};
 
 use crate::refused::refusal_of;
 use hv_data::{

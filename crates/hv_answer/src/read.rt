@@ -1,5 +1,5 @@
 //! Replies read from their words.
-ghost use Rattle.std.specs.Prelude.{◌≡◌, List, ℕ, MatchResult};
+ghost use Rattle.std.specs.Prelude.{◌≡◌, MatchResult};
 ghost use Rattle.hv_data.specs.Data.{HaveNoSpace};
 ghost use Rattle.hv_data.specs.Reading.{Because};
 ghost use Rattle.hv_name.specs.declared.name.StepName.{StepName};

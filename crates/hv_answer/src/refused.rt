@@ -1,10 +1,9 @@
 //! Which refusals are a step's.
-ghost use Rattle.std.specs.Prelude.{IsTrue, ◌↔◌, MatchResult};
-ghost use Rattle.hv_data.specs.Reading.{Because};
+ghost use Rattle.std.specs.Prelude.{IsTrue, ◌↔◌};
+ghost use Rattle.hv_data.specs.Reading.{ReadsWords};
 ghost use Rattle.hv_refusal.specs.declared.refusal.Refusal.{Refusal};
 ghost use Rattle.hv_refusal.specs.Refusal.{refusal_words};
 ghost use Rattle.hv_answer.specs.Refused.{IsNoCommand, IsNoWay, IsNoFile, IsUnlisted, IsUnnamed, IsUnbuilt, IsNoMemory, IsWrongState, IsRefusalOf, MayRefuse};
-ghost use Rattle.hv_answer.specs.Reading.{ReadsWords};
 
 use hv_data::WordRefusal;
 use hv_name::StepName;

@@ -1,11 +1,10 @@
 //! The replies of harts and devices, read from words.
-ghost use Rattle.std.specs.Prelude.{◌≡◌, ◌≢◌, ◌∷◌, [], List, ℕ, Bool, MatchResult, MatchOption, codes};
-ghost use Rattle.hv_data.specs.Reading.{Because};
+ghost use Rattle.std.specs.Prelude.{◌≡◌, ◌≢◌, ◌∷◌, [], Bool, MatchOption, codes};
+ghost use Rattle.hv_data.specs.Reading.{ReadsWords};
 ghost use Rattle.hv_data.specs.Text.{bit_text};
-ghost use Rattle.hv_data.specs.Written.{IsNumber, AreChanges, IsState, IsAny};
+ghost use Rattle.hv_data.specs.Written.{AreChanges, IsState, IsAny};
 ghost use Rattle.hv_answer.specs.Payload.{state_words, outcome_words, fetched_words, accessed_words, harts_words, moved_words, sampled_words, pins_text, woken_text};
 ghost use Rattle.hv_answer.specs.Payload.{pinned_words, ticked_words, maybe_words, IsOutcome, IsFetched, IsAccessed, AreHarts, IsMoved, IsSampled, IsMaybe};
-ghost use Rattle.hv_answer.specs.Reading.{ReadsWords};
 ghost use Rattle.hv_answer.specs.declared.reply.Pins.{Pins};
 
 use crate::given::{changes_alone, is_alone, number_alone};

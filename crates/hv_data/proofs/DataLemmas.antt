@@ -35,6 +35,10 @@ use Rattle.hv_data.proofs.Listed.{same_names, names_free}
 use Rattle.hv_data.proofs.Numerals.{same_address}
 use Rattle.hv_data.proofs.Composed.{same_generation, same_changes, generation_is, decimal_without}
 
+-- words behind one first word
+pub behind : {words rest more : List (List ℕ)} {word other : List ℕ} → words ≡ word ∷ rest → words ≡ other ∷ more → rest ≡ more
+behind is there = cc (is, there)
+
 -- the choice that a text names
 abbrev choice_of : {A : Type 0} → (A → List ℕ) → List A → List ℕ → Option A
 choice_of shown all word = find (λ a. pointwise nat_eq word (shown a)) all

@@ -2,6 +2,7 @@
 use Rattle.std.proofs.Common.{◌≡◌, ◌≢◌, ℕ, ◌+◌, ◌*◌, ◌/◌, ◌%◌, ◌^◌, ◌<◌, false, List, [], ◌∷◌, ◌++◌, length, refl, sym, ap, ◌∙◌, inl, inr, arith, append_assoc}
 use Rattle.std.specs.Prelude.{◌-◌, replicate, codes}
 use Rattle.std.specs.Char.{digit_char, digit_value}
+use Rattle.std.specs.List.{AllByRecursion}
 use Rattle.std.specs.Fmt.{digits}
 use Rattle.std.proofs.lemmas.Bool.{cases_lt}
 use Rattle.std.proofs.lemmas.Fmt.{hex_one_digit, hex_two_digits}
@@ -80,9 +81,10 @@ pub record ReadsPairs (text bytes rest : List ℕ) : Type 0 where
   pub parts : text ≡ hex_pairs bytes ++ rest
   pub each : AreBytes bytes
 
-each_push : (bytes : List ℕ) (b : ℕ) → AreBytes bytes → b < 2 ^ 8 → AreBytes (bytes ++ b ∷ [])
-each_push [] b h lt = (lt, tt)
-each_push (x ∷ bytes) b h lt = (h.0, each_push bytes b h.1 lt)
+-- what holds of each element holds with one more
+pub all_push : {A : Type 0} (good : A → Type 0) (xs : List A) (x : A) → AllByRecursion good xs → good x → AllByRecursion good (xs ++ x ∷ [])
+all_push good [] x h k = (k, tt)
+all_push good (y ∷ ys) x h k = (h.0, all_push good ys x h.1 k)
 
 pairs_push : (bytes : List ℕ) (b : ℕ) (rest : List ℕ) → hex_pairs bytes ++ (padded_hex b 2 ++ rest) ≡ hex_pairs (bytes ++ b ∷ []) ++ rest
 pairs_push bytes b rest =
@@ -91,7 +93,7 @@ pairs_push bytes b rest =
 pub more_pairs : (text bytes rest behind : List ℕ) (b : ℕ) → ReadsPairs text bytes rest → b < 2 ^ 8 → rest ≡ padded_hex b 2 ++ behind → ReadsPairs text (bytes ++ b ∷ []) behind
 more_pairs text bytes rest behind b so_far lt is = record {
   parts = so_far.parts ∙ ap (λ (t : List ℕ). hex_pairs bytes ++ t) is ∙ pairs_push bytes b behind;
-  each = each_push bytes b so_far.each lt;
+  each = all_push (λ (x : ℕ). x < 2 ^ 8) bytes b so_far.each lt;
 }
 
 -- whatever bytes have the text begin with those so far

@@ -18,6 +18,15 @@ abbrev pub Reads : {A : Type 0} → (A → Type 0) → (A → List ℕ) → List
 Reads good shown word result =
     MatchResult result (λ value. IsWordOf good shown word value) (λ e. Because e ((value : _) → IsWordOf good shown word value → ⊥))
 
+-- The words are those of this written value.
+abbrev pub AreWordsOf : {A : Type 0} → (A → Type 0) → (A → List (List ℕ)) → List (List ℕ) → A → Type 0
+AreWordsOf good shown words value = good value × (words ≡ shown value)
+
+-- Words give the written value that has them, or are refused where there is none.
+abbrev pub ReadsWords : {A : Type 0} → (A → Type 0) → (A → List (List ℕ)) → List (List ℕ) → Result A WordRefusal → Type 0
+ReadsWords good shown words result =
+    MatchResult result (λ value. AreWordsOf good shown words value) (λ e. Because e ((value : _) → AreWordsOf good shown words value → ⊥))
+
 -- Words begin with that of this written value, and these follow.
 abbrev pub BeginWith : {A : Type 0} → (A → Type 0) → (A → List ℕ) → List (List ℕ) → A → List (List ℕ) → Type 0
 BeginWith good shown words value rest = good value × (words ≡ shown value ∷ rest)

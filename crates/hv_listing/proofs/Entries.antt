@@ -1,13 +1,13 @@
 -- Entries of a list, one behind the other.
 use Rattle.std.proofs.Common.{◌≡◌, ◌≢◌, ℕ, ◌<◌, List, [], ◌∷◌, ◌++◌, length, refl, sym, ap, subst, ◌∙◌, arith, append_assoc, length-append}
 use Rattle.std.specs.Prelude.{codes}
-use Rattle.std.specs.List.{AllByRecursion, flat_map, join_with_byte}
+use Rattle.std.specs.List.{AllByRecursion}
 use Rattle.std.proofs.lemmas.List.{append-nil}
 use Rattle.std.proofs.lemmas.List.Concat.{flat_map-append}
-use Rattle.hv_text.specs.Front.{IsFree, Stops}
-use Rattle.hv_text.proofs.Fronts.{same_front}
+use Rattle.hv_text.specs.Front.{Stops}
+use Rattle.hv_data.proofs.Pairs.{all_push}
 use Rattle.hv_listing.specs.Listing.{further_entries, entries_text}
-use Rattle.hv_listing.specs.Reading.{AreFields, BeginsWithFields, BeginsWithEntry, HasNoEntries}
+use Rattle.hv_listing.specs.Reading.{BeginsWithEntry, HasNoEntries}
 
 -- entries that are told from their text with what may stand behind it
 pub record IsFronted {A : Type 0} (good : A → Type 0) (shown : A → List ℕ) : Type 0 where
@@ -72,17 +72,13 @@ first_read good shown text rest x h = record {
   is = h.is ∙ ap (λ (t : List ℕ). t ++ rest) (sym (append-nil (shown x)));
 }
 
-all_more : {A : Type 0} (good : A → Type 0) (xs : List A) (x : A) → AllByRecursion good xs → good x → AllByRecursion good (xs ++ x ∷ [])
-all_more good [] x h k = (k, tt)
-all_more good (y ∷ ys) x h k = (h.0, all_more good ys x h.1 k)
-
 -- one entry more
 pub more_read : {A : Type 0} (good : A → Type 0) (shown : A → List ℕ) (text : List ℕ) (entries : List A) (rest behind further : List ℕ) (x : A)
     → HasRead good shown text entries rest → rest ≡ 44 ∷ behind → BeginsWithEntry good shown behind x further → HasRead good shown text (entries ++ x ∷ []) further
 more_read {A = A} good shown text [] rest behind further x h is k = let some = h.some in absurd (omega (arith, some))
 more_read {A = A} good shown text (e ∷ es) rest behind further x h is k = record {
   some = omega arith;
-  written = all_more good (e ∷ es) x h.written k.written;
+  written = all_push good (e ∷ es) x h.written k.written;
   stops = k.stops;
   is = h.is ∙ ap (λ (t : List ℕ). (shown e ++ further_entries shown es) ++ t) (is ∙ ap (λ (t : List ℕ). 44 ∷ t) k.is) ∙ joined;
 }

@@ -1,5 +1,5 @@
 -- What is listed of one guest or window.
-use Rattle.std.proofs.Common.{◌≡◌, ◌≢◌, ℕ, ◌<◌, ◌^◌, List, [], ◌∷◌, ◌++◌, length, refl, sym, ap, subst, ◌∙◌, arith, length-append}
+use Rattle.std.proofs.Common.{◌≡◌, ℕ, ◌<◌, ◌^◌, List, [], ◌∷◌, ◌++◌, length, refl, sym, ap, subst, ◌∙◌, arith, length-append}
 use Rattle.std.specs.Prelude.{codes}
 use Rattle.std.specs.List.{AllByRecursion, join_with_byte}
 use Rattle.std.specs.Char.{digit_value}
@@ -8,9 +8,9 @@ use Rattle.hv_text.specs.declared.stage.Stage.{Stage}
 use Rattle.hv_text.specs.declared.stage.Stage.TheVariants as stage
 use Rattle.hv_text.specs.declared.address.AddressType.{AddressType}
 use Rattle.hv_text.specs.declared.address.AddressType.TheVariants as address
-use Rattle.hv_text.specs.Front.{IsFree, Stops}
+use Rattle.hv_text.specs.Front.{IsFree}
 use Rattle.hv_data.specs.Text.{address_text, stage_text, address_type_text}
-use Rattle.hv_data.specs.Data.{Datum, Number8, Address, Name, At, TypeOf, AreData, data_words, HaveData, HaveNoSpace}
+use Rattle.hv_data.specs.Data.{Datum, Number8, Address, TypeOf, AreData, data_words, HaveData, HaveNoSpace}
 use Rattle.hv_data.proofs.Foreign.{colon_foreign, decimal_free, free_append}
 use Rattle.hv_data.proofs.DataLemmas.{same_data, address_free, free_by_test, data_free}
 use Rattle.hv_listing.specs.declared.guest.ListedGuest.{ListedGuest}
@@ -19,10 +19,6 @@ use Rattle.hv_listing.specs.Listing.{entry_text, guest_data, window_data, guest_
 use Rattle.hv_listing.specs.Reading.{AreFields, BeginsWithFields, BeginsWithEntry, AreEntryWords}
 use Rattle.hv_listing.proofs.FieldLemmas.{same_fields}
 use Rattle.hv_listing.proofs.Entries.{IsFronted, same_entries}
-
--- what stands behind a first word
-pub behind : {words rest more : List (List ℕ)} {word other : List ℕ} → words ≡ word ∷ rest → words ≡ other ∷ more → rest ≡ more
-behind is there = cc (is, there)
 
 -- where no base, size and offset stand behind the first three words, the words are no window's
 pub no_place : (words rest : List (List ℕ)) (owner target : ℕ) (t : AddressType) → HaveData words (Number8 owner ∷ Number8 target ∷ TypeOf t ∷ []) rest

@@ -1,10 +1,11 @@
 -- The fields of an entry, with a colon between two.
-use Rattle.std.proofs.Common.{◌≡◌, ◌≢◌, ℕ, ◌+◌, ◌<◌, suc, List, [], ◌∷◌, ◌++◌, length, refl, sym, ap, subst, ◌∙◌, arith, append_assoc, length-append}
+use Rattle.std.proofs.Common.{◌≡◌, ◌≢◌, ℕ, ◌+◌, ◌<◌, suc, List, [], ◌∷◌, ◌++◌, length, refl, sym, ap, ◌∙◌, arith, append_assoc, length-append}
 use Rattle.std.specs.List.{AllByRecursion, flat_map, join_with_byte}
 use Rattle.std.proofs.lemmas.List.{append-nil}
 use Rattle.std.proofs.lemmas.List.Concat.{flat_map-append}
 use Rattle.hv_text.specs.Front.{IsFree, Stops}
 use Rattle.hv_text.proofs.Fronts.{same_front}
+use Rattle.hv_data.proofs.Pairs.{all_push}
 use Rattle.hv_listing.specs.Reading.{AreFields, BeginsWithFields}
 
 -- fields that are each ended by a colon
@@ -21,15 +22,11 @@ pub nothing_taken : (text : List ℕ) → HasTaken text [] text
 unfolding ended
 nothing_taken text = record { free = tt; is = refl }
 
-free_more : (fields : List (List ℕ)) (field : List ℕ) → AllByRecursion (IsFree 58) fields → IsFree 58 field → AllByRecursion (IsFree 58) (fields ++ field ∷ [])
-free_more [] field h k = (k, tt)
-free_more (f ∷ fields) field h k = (h.0, free_more fields field h.1 k)
-
 -- one field more
 pub more_taken : (text : List ℕ) (fields : List (List ℕ)) (rest field behind : List ℕ) → HasTaken text fields rest → IsFree 58 field → rest ≡ field ++ 58 ∷ behind → HasTaken text (fields ++ field ∷ []) behind
 unfolding ended
 more_taken text fields rest field behind h free is = record {
-  free = free_more fields field h.free free;
+  free = all_push (IsFree 58) fields field h.free free;
   is = h.is ∙ ap (λ (t : List ℕ). ended fields ++ t) is ∙ rw (flat_map-append (λ (f : List ℕ). f ++ 58 ∷ []) fields (field ∷ [])) (simp (append_assoc, append-nil));
 }
 

@@ -1,9 +1,9 @@
 -- How a list is read: fields and entries at the front of a text.
-use Rattle.std.specs.Prelude.{◌≡◌, ◌≢◌, ℕ, List, [], ◌∷◌, ◌++◌, length, Result, MatchResult}
+use Rattle.std.specs.Prelude.{◌≡◌, ◌≢◌, ℕ, List, [], ◌∷◌, ◌++◌, length, Result}
 use Rattle.std.specs.List.{AllByRecursion, join_with_byte}
 use Rattle.hv_text.specs.Front.{IsFree, Stops}
 use Rattle.hv_data.specs.declared.refusal.WordRefusal.{WordRefusal}
-use Rattle.hv_data.specs.Reading.{Because}
+use Rattle.hv_data.specs.Reading.{AreWordsOf, ReadsWords}
 use Rattle.hv_data.specs.Data.{Datum, data_words, AreData}
 use Rattle.hv_listing.specs.Listing.{entries_text}
 
@@ -28,12 +28,11 @@ pub record BeginsWithEntry {A : Type 0} (good : A → Type 0) (shown : A → Lis
 
 -- Words are those of the data of an entry.
 abbrev pub AreEntryWords : {A : Type 0} → (A → List Datum) → List (List ℕ) → A → Type 0
-AreEntryWords data_of words entry = AreData (data_of entry) × (words ≡ data_words (data_of entry))
+AreEntryWords data_of words entry = AreWordsOf (λ e. AreData (data_of e)) (λ e. data_words (data_of e)) words entry
 
 -- Words give the entry whose data's words they are, or are refused where there is none.
 abbrev pub ReadsEntry : {A : Type 0} → (A → List Datum) → List (List ℕ) → Result A WordRefusal → Type 0
-ReadsEntry data_of words result =
-    MatchResult result (λ entry. AreEntryWords data_of words entry) (λ e. Because e ((entry : _) → AreEntryWords data_of words entry → ⊥))
+ReadsEntry data_of words result = ReadsWords (λ e. AreData (data_of e)) (λ e. data_words (data_of e)) words result
 
 -- A text is that of no list that has an entry.
 abbrev pub HasNoEntries : {A : Type 0} → (A → Type 0) → (A → List ℕ) → List ℕ → Type 0

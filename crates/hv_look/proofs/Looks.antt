@@ -4,13 +4,13 @@ use Rattle.std.specs.Fmt.{decimal}
 use Rattle.hv_data.specs.declared.state.State.{State}
 use Rattle.hv_data.specs.Text.{state_text}
 use Rattle.hv_data.specs.Written.{IsNumber}
-use Rattle.hv_data.specs.Reading.{BeginWith}
+use Rattle.hv_data.specs.Reading.{AreWordsOf, BeginWith}
 use Rattle.hv_data.specs.Data.{Number, Number8, StateOf, HaveNoSpace}
 use Rattle.hv_data.proofs.DataLemmas.{same_data, data_free}
 use Rattle.hv_look.specs.declared.look.Csrs.{Csrs}
 use Rattle.hv_look.specs.declared.look.Registers.{Registers}
 use Rattle.hv_look.specs.declared.look.Look.{Look}
-use Rattle.hv_look.specs.Look.{csr_values, register_values, values_words, registers_words, sliced_words, look_words, AreNumbers, IsRegisters, IsSliced, IsLook, AreWordsOf}
+use Rattle.hv_look.specs.Look.{csr_values, register_values, values_words, registers_words, sliced_words, look_words, AreNumbers, IsRegisters, IsSliced, IsLook}
 use Rattle.hv_look.proofs.Values.{same_values, values_free}
 
 -- two fronts of one length and what stands behind them

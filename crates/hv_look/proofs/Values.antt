@@ -3,12 +3,13 @@ use Rattle.std.proofs.Common.{◌≡◌, ℕ, ◌<◌, suc, zero, List, [], ◌�
 use Rattle.std.specs.List.{join_with_byte}
 use Rattle.hv_data.specs.Text.{address_text}
 use Rattle.hv_data.specs.Written.{IsNumber}
-use Rattle.hv_data.specs.Reading.{IsWordOf}
+use Rattle.hv_data.specs.Reading.{AreWordsOf, IsWordOf}
 use Rattle.hv_data.specs.Data.{Address, HaveNoSpace, spaced}
 use Rattle.hv_data.proofs.Numerals.{same_address}
+use Rattle.hv_data.proofs.Pairs.{all_push}
 use Rattle.hv_data.proofs.DataLemmas.{data_free}
 use Rattle.hv_data.proofs.Splits.{joined_spaced}
-use Rattle.hv_look.specs.Look.{values_words, AreNumbers, AreWordsOf}
+use Rattle.hv_look.specs.Look.{values_words, AreNumbers}
 
 -- values with the same words are the same
 pub same_values : (xs ys : List ℕ) → AreNumbers xs → AreNumbers ys → values_words xs ≡ values_words ys → xs ≡ ys
@@ -39,8 +40,7 @@ none_where_none words i word lt is none values h =
     none found.0 (subst (λ (w : List ℕ). IsWordOf IsNumber address_text w found.0) (sym is) found.1)
 
 pub numbers_push : (values : List ℕ) (v : ℕ) → AreNumbers values → IsNumber v → AreNumbers (values ++ v ∷ [])
-numbers_push [] v h k = (k, tt)
-numbers_push (x ∷ values) v h k = (h.0, numbers_push values v h.1 k)
+numbers_push = all_push IsNumber
 
 pub words_push : (values : List ℕ) (v : ℕ) → values_words (values ++ v ∷ []) ≡ values_words values ++ address_text v ∷ []
 words_push [] v = refl

@@ -1,11 +1,9 @@
 -- The words of a look at a VCPU.
-use Rattle.std.specs.Prelude.{◌≡◌, ℕ, ◌^◌, ◌<◌, List, [], ◌∷◌, ◌++◌, length, map, Result, MatchResult}
+use Rattle.std.specs.Prelude.{◌≡◌, ℕ, ◌^◌, ◌<◌, List, [], ◌∷◌, ◌++◌, length, map}
 use Rattle.std.specs.List.{AllByRecursion, join_with_byte}
 use Rattle.std.specs.Fmt.{decimal}
-use Rattle.hv_data.specs.declared.refusal.WordRefusal.{WordRefusal}
 use Rattle.hv_data.specs.Text.{address_text, state_text}
 use Rattle.hv_data.specs.Written.{IsNumber, IsNumber8, IsState}
-use Rattle.hv_data.specs.Reading.{Because}
 use Rattle.hv_look.specs.declared.look.Csrs.{Csrs}
 use Rattle.hv_look.specs.declared.look.Registers.{Registers}
 use Rattle.hv_look.specs.declared.look.Look.{Look}
@@ -53,12 +51,3 @@ IsSliced both = (both.0 < 2 ^ 32) × IsRegisters both.1
 -- What a look shows has the written form.
 abbrev pub IsLook : Look → Type 0
 IsLook l = IsState l.state × IsNumber8 l.priority × IsSliced (l.slice, l.registers)
-
--- The words are those of this written value.
-abbrev pub AreWordsOf : {A : Type 0} → (A → Type 0) → (A → List (List ℕ)) → List (List ℕ) → A → Type 0
-AreWordsOf good shown words value = good value × (words ≡ shown value)
-
--- Words give the written value that has them, or are refused where there is none.
-abbrev pub ReadsWords : {A : Type 0} → (A → Type 0) → (A → List (List ℕ)) → List (List ℕ) → Result A WordRefusal → Type 0
-ReadsWords good shown words result =
-    MatchResult result (λ value. AreWordsOf good shown words value) (λ e. Because e ((value : _) → AreWordsOf good shown words value → ⊥))

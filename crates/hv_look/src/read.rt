@@ -1,12 +1,12 @@
 //! Looks read from their words.
-ghost use Rattle.std.specs.Prelude.{◌≡◌, ◌≢◌, ◌∷◌, List, ℕ, length, MatchOption, MatchResult};
+ghost use Rattle.std.specs.Prelude.{◌≡◌, ◌≢◌, List, ℕ, length, MatchOption, MatchResult};
 ghost use Rattle.hv_data.specs.Data.{HaveNoSpace};
-ghost use Rattle.hv_data.specs.Reading.{Because};
+ghost use Rattle.hv_data.specs.Reading.{AreWordsOf, Because, ReadsWords};
 ghost use Rattle.hv_look.specs.declared.look.Csrs.{Csrs};
 ghost use Rattle.hv_look.specs.declared.look.Registers.{Registers};
 ghost use Rattle.hv_look.specs.declared.look.Look.{Look};
 ghost use Rattle.hv_look.specs.Look.{csr_values, register_values, values_words, registers_words, sliced_words, look_words};
-ghost use Rattle.hv_look.specs.Look.{AreNumbers, IsRegisters, IsSliced, IsLook, AreWordsOf, ReadsWords};
+ghost use Rattle.hv_look.specs.Look.{AreNumbers, IsRegisters, IsSliced, IsLook};
 
 use crate::look::{Csrs, Look, Registers};
 use hv_data::{WordRefusal, address_word, take_number, take_number8, take_state};

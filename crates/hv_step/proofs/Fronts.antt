@@ -124,10 +124,6 @@ no_step_where_unnamed words behind first is none s rest h =
     let found : None ≡ Some (name_of s) = none ∙ ap name_spelled word_is ∙ spelled_back (name_of s) in
     cc found
 
--- words behind the same words
-pub behind : {whole words rest : List (List ℕ)} {word other : List ℕ} → whole ≡ word ∷ words → whole ≡ other ∷ rest → words ≡ rest
-behind e f = cc (e, f)
-
 -- words behind which a guest follows are read as that guest's alone
 pub no_guest : (words : List (List ℕ)) → GoesOn words → ((g : ByGuest) (rest : List (List ℕ)) → AreGuest words (Some g) rest → ⊥) → (o : Option ByGuest) (rest : List (List ℕ)) → AreGuest words o rest → ⊥
 no_guest words goes none None rest h = h.2 goes.0 goes.1 goes.2 (sym h.1 ∙ goes.3)

@@ -1,5 +1,5 @@
 //! Data of several words taken from the front.
-ghost use Rattle.std.specs.Prelude.{◌≡◌, [], ◌∷◌, ℕ, List, Option, Some, MatchBool, MatchResult};
+ghost use Rattle.std.specs.Prelude.{[], ◌∷◌, ℕ, List, Option, Some, MatchResult};
 ghost use Rattle.hv_text.specs.declared.stage.Stage.{Stage};
 ghost use Rattle.hv_data.specs.declared.generation.Generation.{Generation};
 ghost use Rattle.hv_data.specs.Data.{Name, Born, At, HaveData};

@@ -1,5 +1,5 @@
 //! Steps of harts, and of the signals that devices send, read from their words.
-ghost use Rattle.std.specs.Prelude.{List, ℕ, MatchResult};
+ghost use Rattle.std.specs.Prelude.{MatchResult};
 ghost use Rattle.hv_data.specs.Reading.{Because};
 ghost use Rattle.hv_step.specs.Reading.{AreArguments, AreNoArguments};
 

@@ -1,5 +1,5 @@
 //! Data printed, each behind a space.
-ghost use Rattle.std.specs.Prelude.{◌≡◌, ◌++◌, ◌∷◌, Some, OnOk};
+ghost use Rattle.std.specs.Prelude.{◌≡◌, ◌++◌, ◌∷◌, OnOk};
 ghost use Rattle.std.specs.Fmt.{decimal};
 ghost use Rattle.hv_text.specs.Path.{path_text};
 ghost use Rattle.hv_data.specs.Text.{address_text, hex_text, name_text, generation_text, stage_text};

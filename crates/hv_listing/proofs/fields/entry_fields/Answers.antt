@@ -1,4 +1,4 @@
-use Rattle.std.proofs.Common.{refl, arith, suc, length, length-append, ◌∷◌, []}
+use Rattle.std.proofs.Common.{refl, arith, length-append, ◌∷◌, []}
 use Rattle.hv_listing.proofs.FieldLemmas.{nothing_taken, more_taken, none_behind, all_taken}
 use Rattle.hv_listing.proofs.fields.entry_fields.Goals as goal
 

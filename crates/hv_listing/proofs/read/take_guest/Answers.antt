@@ -3,7 +3,7 @@ use Rattle.std.proofs.lemmas.Result.{err_from_is_err_and}
 use Rattle.hv_text.specs.declared.stage.Stage.{Stage}
 use Rattle.hv_data.specs.Data.{Number8, Name, At, HaveData}
 use Rattle.hv_data.proofs.Composed.{because_more}
-use Rattle.hv_listing.proofs.Entry.{behind}
+use Rattle.hv_data.proofs.DataLemmas.{behind}
 use Rattle.hv_listing.proofs.read.take_guest.Goals as goal
 
 pub returns-in_err-stage : goal.returns-in_err-stage

@@ -1,5 +1,6 @@
 use Rattle.std.proofs.Common.{take}
-use Rattle.hv_look.specs.Look.{AreNumbers, values_words, AreWordsOf}
+use Rattle.hv_data.specs.Reading.{AreWordsOf}
+use Rattle.hv_look.specs.Look.{AreNumbers, values_words}
 use Rattle.hv_look.proofs.read.read_values.Given as goal
 
 abbrev pub invariant-loop-word : goal.invariant-loop-word

@@ -4,7 +4,7 @@ use Rattle.std.proofs.lemmas.Result.{err_from_is_err_and}
 use Rattle.hv_data.specs.declared.generation.Generation.{Generation}
 use Rattle.hv_data.specs.Data.{Name, Born, HaveData}
 use Rattle.hv_data.proofs.Composed.{because_more}
-use Rattle.hv_step.proofs.Fronts.{behind}
+use Rattle.hv_data.proofs.DataLemmas.{behind}
 use Rattle.hv_step.proofs.front.take_region.Goals as goal
 
 pub returns-in_err-region : goal.returns-in_err-region

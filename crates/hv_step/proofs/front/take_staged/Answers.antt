@@ -5,7 +5,7 @@ use Rattle.hv_text.specs.declared.stage.Stage.{Stage}
 use Rattle.hv_data.specs.declared.generation.Generation.{Generation}
 use Rattle.hv_data.specs.Data.{Name, At, Born, HaveData}
 use Rattle.hv_data.proofs.Composed.{because_more}
-use Rattle.hv_step.proofs.Fronts.{behind}
+use Rattle.hv_data.proofs.DataLemmas.{behind}
 use Rattle.hv_step.proofs.front.take_staged.Goals as goal
 
 pub returns-in_err-region : goal.returns-in_err-region

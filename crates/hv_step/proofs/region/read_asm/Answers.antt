@@ -1,8 +1,8 @@
 use Rattle.std.proofs.lemmas.Result.{err_from_is_err_and}
 use Rattle.hv_data.proofs.Composed.{because_more}
+use Rattle.hv_data.proofs.DataLemmas.{behind}
 use Rattle.hv_name.specs.declared.name.StepName.TheVariants as name
 use Rattle.hv_step.specs.Reading.{AreNoArguments}
-use Rattle.hv_step.proofs.Fronts.{behind}
 use Rattle.hv_step.proofs.region.read_asm.Goals as goal
 
 pub returns-in_err-target : goal.returns-in_err-target

@@ -2,9 +2,10 @@ use Rattle.std.proofs.Common.{ℕ, List}
 use Rattle.std.specs.Prelude.{Option}
 use Rattle.std.proofs.lemmas.Result.{err_from_is_err_and}
 use Rattle.hv_data.proofs.Composed.{because_more}
+use Rattle.hv_data.proofs.DataLemmas.{behind}
 use Rattle.hv_step.specs.declared.step.ByGuest.{ByGuest}
 use Rattle.hv_step.specs.Reading.{AreGuest}
-use Rattle.hv_step.proofs.Fronts.{behind, no_guest}
+use Rattle.hv_step.proofs.Fronts.{no_guest}
 use Rattle.hv_step.proofs.vcpu.take_guest.Goals as goal
 
 pub returns-in_err-name : goal.returns-in_err-name

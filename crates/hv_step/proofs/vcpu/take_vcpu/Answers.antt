@@ -2,9 +2,9 @@ use Rattle.std.proofs.Common.{ℕ, List}
 use Rattle.std.specs.Prelude.{Option}
 use Rattle.std.proofs.lemmas.Result.{err_from_is_err_and}
 use Rattle.hv_data.proofs.Composed.{because_more}
+use Rattle.hv_data.proofs.DataLemmas.{behind}
 use Rattle.hv_step.specs.declared.step.ByGuest.{ByGuest}
 use Rattle.hv_step.specs.Reading.{AreByGuest}
-use Rattle.hv_step.proofs.Fronts.{behind}
 use Rattle.hv_step.proofs.vcpu.take_vcpu.Goals as goal
 
 pub returns-in_err-guest : goal.returns-in_err-guest
