@@ -49,29 +49,10 @@ touch-actor O e a = ap (λ b. same_actor a e.event.actor || b) (none-of a (compo
 
 -- whether a step touches the files
 abbrev pub touches_files : Step → Bool
-touches_files (step.Ls s) = true
-touches_files (step.Cat s) = true
-touches_files (step.Dts s) = true
-touches_files (step.Run s) = true
-touches_files (step.Mkdir s) = true
-touches_files (step.Rm s) = true
-touches_files (step.Write s) = true
-touches_files (step.Asm s) = true
-touches_files _ = false
-
-files-among : (st : Step) → list_any (same_cell (Component component.Files)) (map Component (components_of st)) ≡ touches_files st
-files-among (step.Ls s) = refl
-files-among (step.Cat s) = refl
-files-among (step.Dts s) = refl
-files-among (step.Run s) = refl
-files-among (step.Mkdir s) = refl
-files-among (step.Rm s) = refl
-files-among (step.Write s) = refl
-files-among (step.Asm s) = refl
-files-among st = refl
+touches_files st = list_any (same_cell (Component component.Files)) (map Component (components_of st))
 
 touch-files : (O : Origin) (e : Entry) → touches (machine O) (Component component.Files) e ≡ touches_files e.event.step
-touch-files O e = files-among e.event.step
+touch-files O e = refl
 
 -- what a step does to the files, as one of two records
 pub data Part (old new : FileCell) (own : ℕ) (e : Entry) (st : Step) : Type 0 where

@@ -18,7 +18,7 @@ use Rattle.hv_model.specs.Terminal.{TerminalState, next_in, IsAtBootEnd, IsAtEnd
 use Rattle.hv_model.specs.Rules.{machine}
 use Rattle.hv_model.specs.Legal.{first, greatest_stamp, start, own_at_start, terminal_at_start, booted, begun, Leads, IsComplete}
 use Rattle.hv_model.specs.Rounds.{TakesTurns, terminal_has_ended, is_over}
-use Rattle.hv_model.specs.Report.{is_terminal, events_of, IsTranscript, AreTranscripts}
+use Rattle.hv_model.specs.Report.{events_of, IsTranscript, AreTranscripts}
 use Rattle.hv_model.proofs.RunLemmas.{made-leads, boot-leads, in-range-merged}
 use Rattle.hv_rounds.specs.declared.terminal.Terminal.{Terminal as TerminalCell}
 use Rattle.hv_rounds.specs.declared.board.Board.{Board}

@@ -1,6 +1,7 @@
 -- One step of a terminal over the files.
-use Rattle.std.specs.Prelude.{◌≡◌, ℕ, ◌+◌, ◌^◌, ◌++◌, max, Option, Some, Result, Ok, Err, List}
+use Rattle.std.specs.Prelude.{◌≡◌, ℕ, ◌+◌, ◌^◌, ◌++◌, max, Option, Some, Result, Ok, Err, List, [], ◌∷◌}
 use Rattle.hv_event.specs.declared.event.ActorId.TheVariants as actor
+use Rattle.hv_event.specs.declared.event.CellId.{CellId}
 use Rattle.hv_step.specs.declared.step.Step.{Step}
 use Rattle.hv_step.specs.declared.step.Step.TheVariants as step
 use Rattle.hv_answer.specs.declared.reply.Reply.{Reply}
@@ -9,6 +10,7 @@ use Rattle.hv_dtree.specs.declared.node.Node.{Node}
 use Rattle.hv_dts.specs.Reading.{IsSourceOf}
 use Rattle.hv_model.specs.declared.entry.Entry.{Entry}
 use Rattle.hv_model.specs.Files.{FilesAgree, files_after}
+use Rattle.hv_model.specs.Rules.{components_of}
 use Rattle.hv_refusal.specs.declared.refusal.Refusal.{Refusal}
 use Rattle.hv_refusal.specs.declared.refusal.Refusal.TheVariants as refusal
 use Rattle.hv_words.specs.declared.command.Command.{Command}
@@ -34,17 +36,14 @@ pub record LeavesFiles (old new : FileCell) (own : ℕ) (e : Entry) : Type 0 whe
   pub same : new ≡ old
   pub next : e.event.stamp ≡ own + 1
 
--- what a step does to the files, by its kind
+-- what a step does to the files by the components that it touches, which are the files or none
+abbrev pub FilesAmong : List CellId → FileCell → FileCell → ℕ → Entry → Type 0
+FilesAmong [] old new own e = LeavesFiles old new own e
+FilesAmong (c ∷ cs) old new own e = TouchesFiles old new own e
+
+-- what a step does to the files
 abbrev pub FilesPart : Step → FileCell → FileCell → ℕ → Entry → Type 0
-FilesPart (step.Ls s) old new own e = TouchesFiles old new own e
-FilesPart (step.Cat s) old new own e = TouchesFiles old new own e
-FilesPart (step.Dts s) old new own e = TouchesFiles old new own e
-FilesPart (step.Run s) old new own e = TouchesFiles old new own e
-FilesPart (step.Mkdir s) old new own e = TouchesFiles old new own e
-FilesPart (step.Rm s) old new own e = TouchesFiles old new own e
-FilesPart (step.Write s) old new own e = TouchesFiles old new own e
-FilesPart (step.Asm s) old new own e = TouchesFiles old new own e
-FilesPart _ old new own e = LeavesFiles old new own e
+FilesPart st old new own e = FilesAmong (components_of st) old new own e
 
 -- an entry is the terminal's next step, and the terminal and the files are as it leaves them
 pub record IsStep (old new : FileCell) (t t' : Terminal) (e : Entry) : Type 0 where

@@ -1,5 +1,5 @@
 //! The cells of a run: the files and the four terminals.
-ghost use Rattle.std.specs.Prelude.{◌≡◌, ◌≤◌, ◌<◌, ◌^◌, ℕ, vec_len, IfOk, Err, MatchOption, false};
+ghost use Rattle.std.specs.Prelude.{◌≡◌, ◌≤◌, ◌<◌, ℕ, vec_len, IfOk, Err, MatchOption, false};
 ghost use Rattle.hv_model.specs.Rounds.{terminal_has_ended};
 
 use crate::files::FileCell;
@@ -21,7 +21,7 @@ impl Board {
     ghost use Rattle.hv_rounds.specs.declared.terminal.Terminal.{Terminal as TerminalCell};
     ghost use Rattle.hv_rounds.specs.declared.stop.Stop.TheVariants as stop;
     ghost use Rattle.hv_rounds.specs.Cells.{value_of};
-    ghost use Rattle.hv_rounds.specs.Step.{SpentBy, KeepsFiles};
+    ghost use Rattle.hv_rounds.specs.Step.{KeepsFiles};
     ghost use Rattle.hv_rounds.specs.Board.{at, IsBoardStep, EndedFrom, OpenFrom, IsTurn, FoundLast, BeginTogether};
 
     /// The first terminal from a number on that has not ended.

@@ -4,7 +4,7 @@ ghost use Rattle.hv_text.specs.Lines.{script_lines};
 ghost use Rattle.hv_words.specs.Words.{commands_of};
 ghost use Rattle.hv_model.specs.Origin.{origin_of, boot_script, own_script};
 ghost use Rattle.hv_model.specs.Files.{load_files};
-ghost use Rattle.hv_model.specs.Legal.{boot_at_start, own_at_start, lines_at_start, terminal_at_start};
+ghost use Rattle.hv_model.specs.Legal.{boot_at_start, lines_at_start, terminal_at_start};
 ghost use Rattle.hv_rounds.specs.Cells.{value_of, IsNew};
 ghost use Rattle.hv_rounds.specs.Phase.{BootPart};
 ghost use Rattle.hv_rounds.specs.Outcome.{LinesFit};

@@ -1,8 +1,7 @@
 //! A script that is run.
-ghost use Rattle.std.specs.Prelude.{◌≡◌, ◌≢◌, ◌≤◌, ◌<◌, ◌+◌, ℕ, List, Ok, Err, Some, None, IfOk, OnOk, nat_le, length};
-ghost use Rattle.hv_text.specs.Lines.{script_lines};
+ghost use Rattle.std.specs.Prelude.{◌≡◌, ◌≢◌, ◌≤◌, ◌<◌, ◌+◌, ℕ, List, Ok, Err, Some, None, OnOk, nat_le, length};
 ghost use Rattle.hv_words.specs.Words.{commands_of};
-ghost use Rattle.hv_model.specs.Terminal.{opened, scripts_of, RunAnswers};
+ghost use Rattle.hv_model.specs.Terminal.{scripts_of, RunAnswers};
 ghost use Rattle.hv_rounds.specs.Answer.{AnswersScript, IsOpened, MayOpen, RunOpens};
 
 use crate::terminal::Terminal;

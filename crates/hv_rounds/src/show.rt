@@ -1,9 +1,7 @@
 //! What a terminal shows.
-ghost use Rattle.std.specs.Prelude.{◌≡◌, ◌++◌, ◌∷◌, [], Ok, OnOk, codes};
+ghost use Rattle.std.specs.Prelude.{◌≡◌, ◌++◌, Ok, OnOk, codes};
 ghost use Rattle.hv_dtree.specs.declared.node.Node.{Node};
 ghost use Rattle.hv_dts.specs.Reading.{IsSourceOf};
-ghost use Rattle.std.specs.List.{flat_map};
-ghost use Rattle.hv_refusal.specs.Refusal.{refusal_text};
 ghost use Rattle.hv_model.specs.Report.{line, shown, names_shown, answer_shown, nothing_shown, words_shown, refused_shown};
 ghost use Rattle.hv_rounds.specs.Step.{IsShowable, AppendsReply};
 

@@ -1,5 +1,5 @@
 //! Entries parted into the logs of the terminals.
-ghost use Rattle.std.specs.Prelude.{◌≡◌, ◌++◌, [], ◌∷◌, filter, OnOk, IfOk};
+ghost use Rattle.std.specs.Prelude.{◌≡◌, ◌++◌, [], ◌∷◌, filter, OnOk};
 ghost use Rattle.hv_model.specs.Report.{is_terminal};
 ghost use Rattle.hv_rounds.specs.Board.{own_events};
 

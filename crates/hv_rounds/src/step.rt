@@ -1,11 +1,9 @@
 //! One step of a terminal.
-ghost use Rattle.std.specs.Prelude.{◌≡◌, ◌<◌, ◌≤◌, ◌-◌, List, ℕ, IfOk, false};
+ghost use Rattle.std.specs.Prelude.{◌≡◌, ◌<◌, ◌-◌, IfOk};
 ghost use Rattle.hv_words.specs.declared.command.Command.TheVariants as command;
 ghost use Rattle.hv_words.specs.Commands.{Gives};
-ghost use Rattle.hv_model.specs.Rounds.{terminal_has_ended};
 ghost use Rattle.hv_fpart.specs.Part.{IsFilesStep};
 ghost use Rattle.hv_rounds.specs.declared.terminal.Terminal.{Terminal};
-ghost use Rattle.hv_rounds.specs.Cells.{value_of};
 ghost use Rattle.hv_rounds.specs.Step.{IsStep, IsBegun, IsAsked, IsBadLine, SpentBy, KeepsFiles};
 
 use crate::files::FileCell;

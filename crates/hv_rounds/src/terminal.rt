@@ -51,7 +51,7 @@ pub fn next_stamp(one: u64, other: u64) -> Result<u64, Stop>
 
 impl Terminal {
     ghost use Rattle.hv_rounds.specs.Cells.{value_of, SameButScripts, MadeOne, BeginsAt};
-    ghost use Rattle.hv_model.specs.Terminal.{Begun, begun, IsAtBootEnd};
+    ghost use Rattle.hv_model.specs.Terminal.{begun, IsAtBootEnd};
     ghost use Rattle.hv_model.specs.Rounds.{terminal_has_ended};
     ghost use Rattle.hv_rounds.specs.Step.{Makes};
 

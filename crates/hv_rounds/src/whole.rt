@@ -5,7 +5,7 @@ ghost use Rattle.hv_model.specs.Origin.{origin_of};
 ghost use Rattle.hv_model.specs.Files.{load_files};
 ghost use Rattle.hv_rounds.specs.Close.{logs_of, Closes};
 ghost use Rattle.hv_rounds.specs.Outcome.{LinesFit, IsOutcome};
-ghost use Rattle.hv_rounds.specs.Phase.{BootPart, IsBooted};
+ghost use Rattle.hv_rounds.specs.Phase.{IsBooted};
 
 use crate::board::Board;
 use crate::files::FileCell;

@@ -1,4 +1,4 @@
-use Rattle.std.proofs.Common.{◌≡◌, Err, List, ℕ, subst}
+use Rattle.std.proofs.Common.{◌≡◌, Err, subst}
 use Rattle.hv_dtree.specs.declared.node.Node.{Node}
 use Rattle.hv_dts.specs.Reading.{IsOnly}
 use Rattle.hv_dts.specs.declared.refusal.DtsRefusal.{DtsRefusal}
