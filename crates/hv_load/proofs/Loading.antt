@@ -1,5 +1,5 @@
 -- What the calls on a tree leave, as single entries put into its map.
-use Rattle.std.proofs.Common.{◌≡◌, ℕ, zero, suc, ◌+◌, ◌-◌, ◌<◌, ◌++◌, Bool, true, false, cond, List, [], ◌∷◌, length, take, drop, get_or, refl, sym, ap, subst, ◌∙◌, arith, drop-cons, length-drop, ◌≤◌, Option, Some, None, Result, Ok, Err, IsTrue, true≢false, is_eq, Ordering, Less, Equal, Greater}
+use Rattle.std.proofs.Common.{◌≡◌, ℕ, zero, suc, ◌+◌, ◌-◌, ◌<◌, ◌++◌, Bool, true, false, cond, List, [], ◌∷◌, length, take, drop, get_or, refl, sym, ap, subst, ◌∙◌, arith, drop-cons, length-drop, Option, Some, None, Result, Ok, Err, IsTrue, true≢false, is_eq, Ordering, Less, Equal, Greater}
 use Rattle.std.specs.Prelude.{map}
 use Rattle.std.specs.Ordering.{eq_by_cmp}
 use Rattle.std.specs.FinMap.{find, put, is_sorted}

@@ -1,5 +1,5 @@
 -- A run leads where its merged history leads.
-use Rattle.std.proofs.Common.{◌≡◌, ℕ, ◌≤◌, Bool, true, List, [], ◌∷◌, ◌++◌, map, refl, ap, sym, subst, ◌∙◌}
+use Rattle.std.proofs.Common.{◌≡◌, ◌≤◌, List, [], ◌∷◌, ◌++◌, map, refl, ap, sym, subst, ◌∙◌}
 use Rattle.std.specs.List.{AllByRecursion}
 use Rattle.hv_machine.specs.Machine.{Machine, State, events_at, events_by, state_after}
 use Rattle.hv_machine.specs.Merging.{IsRising, IsMerged}

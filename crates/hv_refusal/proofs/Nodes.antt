@@ -1,13 +1,13 @@
 -- Names of nodes, taken apart at their at signs.
 use Rattle.std.proofs.Common.{◌≡◌, ℕ, suc, zero, ◌<◌, List, [], ◌∷◌, ◌++◌, length, refl, sym, subst, ◌∙◌, inl, inr, arith, get_or, take, drop, take-append-drop, append_assoc, ap}
-use Rattle.std.specs.Prelude.{◌⊎◌, codes}
+use Rattle.std.specs.Prelude.{codes}
 use Rattle.std.specs.List.{AllByRecursion, join_with_byte}
 use Rattle.std.proofs.lemmas.List.{append-nil}
 use Rattle.std.proofs.lemmas.List.Splits.{join_with_byte-slice_split}
 use Rattle.std.proofs.lemmas.List.Elements.{All-from_recursion, recursion_from_All}
 use Rattle.hv_text.specs.Front.{IsFree, Stops}
 use Rattle.hv_text.proofs.Fronts.{same_front}
-use Rattle.hv_dtree.specs.Names.{IsNodeByte, IsUnitAddress, IsNodeName}
+use Rattle.hv_dtree.specs.Names.{IsNodeByte, IsNodeName}
 use Rattle.hv_data.specs.Reading.{parts_at}
 use Rattle.hv_refusal.specs.Node.{AreNodeBytes, IsUnit, IsNodePath}
 

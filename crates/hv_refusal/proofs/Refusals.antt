@@ -1,15 +1,13 @@
 -- Refusals and their words.
-use Rattle.std.proofs.Common.{◌≡◌, ℕ, ◌<◌, ◌^◌, Bool, true, not, eqb, List, [], ◌∷◌, length, refl, sym, ap, subst, ◌∙◌, inl, inr, arith}
+use Rattle.std.proofs.Common.{◌≡◌, ℕ, ◌<◌, Bool, true, not, eqb, List, [], ◌∷◌, length, refl, sym, ap, subst, ◌∙◌, inl, inr, arith}
 use Rattle.std.specs.Prelude.{◌⊎◌, Some, None, Result, Ok, Err, MatchResult}
 use Rattle.std.specs.List.{list_all}
 use Rattle.std.specs.Fmt.{decimal}
 use Rattle.std.proofs.lemmas.Fmt.{decimal_injective}
-use Rattle.hv_text.specs.declared.stage.Stage.{Stage}
 use Rattle.hv_cause.specs.declared.Cause.{Cause}
 use Rattle.hv_cause.specs.declared.Cause.TheVariants as cause
 use Rattle.hv_cause.specs.Cause.{cause_word, cause_spelled}
 use Rattle.hv_data.specs.declared.refusal.WordRefusal.{WordRefusal}
-use Rattle.hv_data.specs.declared.state.StateName.{StateName}
 use Rattle.hv_data.specs.Text.{stage_text, state_name_text}
 use Rattle.hv_data.specs.Written.{IsNumber, IsNumber8, IsAny}
 use Rattle.hv_data.specs.Reading.{Because}

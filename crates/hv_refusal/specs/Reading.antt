@@ -1,5 +1,5 @@
 -- What words are read as.
-use Rattle.std.specs.Prelude.{◌≡◌, ℕ, Bool, if◌then◌else◌, List, [], ◌∷◌, codes, Option, Some, None}
+use Rattle.std.specs.Prelude.{◌≡◌, ℕ, if◌then◌else◌, List, [], ◌∷◌, codes, Option, Some, None}
 use Rattle.std.specs.Fmt.{decimal}
 use Rattle.hv_text.specs.declared.stage.Stage.{Stage}
 use Rattle.hv_cause.specs.declared.Cause.{Cause}

@@ -1,14 +1,12 @@
 //! What refusals tell behind their names.
-ghost use Rattle.std.specs.Prelude.{◌≡◌, ◌∷◌, [], List, ℕ, MatchResult, MatchOption, IfSome};
+ghost use Rattle.std.specs.Prelude.{◌≡◌, ℕ, MatchResult, IfSome};
 ghost use Rattle.std.specs.Fmt.{decimal};
 ghost use Rattle.hv_text.specs.declared.stage.Stage.{Stage};
-ghost use Rattle.hv_cause.specs.Cause.{cause_word};
 ghost use Rattle.hv_data.specs.declared.state.StateName.{StateName};
 ghost use Rattle.hv_data.specs.Text.{stage_text, state_name_text};
 ghost use Rattle.hv_data.specs.Written.{IsNumber, IsNumber8, IsAny};
 ghost use Rattle.hv_data.specs.Reading.{Because};
 ghost use Rattle.hv_refusal.specs.declared.refusal.Refusal.{Refusal};
-ghost use Rattle.hv_refusal.specs.Node.{IsNodePath};
 ghost use Rattle.hv_refusal.specs.Reading.{telling_word, telling_spelled, IsAlone, AreArguments};
 
 use crate::node::node_path_word;

@@ -1,7 +1,7 @@
 //! Paths of nodes in a device tree.
 ghost use Rattle.std.specs.Prelude.{IsTrue, ◌↔◌};
 ghost use Rattle.std.specs.List.{AllByRecursion};
-ghost use Rattle.hv_dtree.specs.Names.{IsNodeByte, IsUnitAddress, IsNodeName};
+ghost use Rattle.hv_dtree.specs.Names.{IsNodeByte, IsNodeName};
 ghost use Rattle.hv_data.specs.Reading.{Reads};
 ghost use Rattle.hv_refusal.specs.Node.{AreNodeBytes, IsUnit, IsNodePath, node_path_text};
 

@@ -1,5 +1,5 @@
 //! Refusals read from their words.
-ghost use Rattle.std.specs.Prelude.{◌≡◌, ◌∷◌, [], List, ℕ, MatchResult, IfSome};
+ghost use Rattle.std.specs.Prelude.{◌≡◌, ◌∷◌, [], MatchResult, IfSome};
 ghost use Rattle.hv_data.specs.Data.{HaveNoSpace};
 ghost use Rattle.hv_data.specs.Reading.{Because};
 ghost use Rattle.hv_refusal.specs.declared.refusal.Refusal.{Refusal};

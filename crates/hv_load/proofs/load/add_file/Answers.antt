@@ -1,4 +1,4 @@
-use Rattle.std.proofs.Common.{◌≡◌, ◌<◌, ◌+◌, ◌∷◌, ◌++◌, [], length, get_or, take, sym, ap, subst, ◌∙◌, arith, IsTrue}
+use Rattle.std.proofs.Common.{◌<◌, ◌+◌, ◌∷◌, ◌++◌, [], length, get_or, sym, ap, subst, ◌∙◌, arith, IsTrue}
 use Rattle.std.specs.FinMap.{is_sorted}
 use Rattle.hv_files.specs.FileMap.{path_cmp}
 use Rattle.hv_files.specs.declared.node.Node.TheVariants.{Folder}

@@ -1,6 +1,5 @@
-use Rattle.std.proofs.Common.{◌≡◌, ◌∷◌, [], sym, ap, subst, ◌∙◌, arith, IsTrue}
+use Rattle.std.proofs.Common.{◌≡◌, [], sym, subst, ◌∙◌, IsTrue}
 use Rattle.std.specs.FinMap.{is_sorted}
-use Rattle.hv_bundle.specs.declared.file.File.{File}
 use Rattle.hv_files.specs.FileMap.{path_cmp, with_way}
 use Rattle.hv_load.proofs.Loading.{next_file, named_at, sorted_way}
 use Rattle.hv_load.proofs.load.load_tree.Goals as goal

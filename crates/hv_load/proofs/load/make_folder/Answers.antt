@@ -1,4 +1,4 @@
-use Rattle.std.proofs.Common.{refl, sym}
+use Rattle.std.proofs.Common.{sym}
 use Rattle.hv_files.specs.declared.node.Node.TheVariants.{Folder}
 use Rattle.hv_load.proofs.Loading.{put_same, folder_there}
 use Rattle.hv_load.proofs.load.make_folder.Goals as goal
