@@ -1,5 +1,5 @@
 -- What holds of the bytes that a source tells.
-use Rattle.std.proofs.Common.{◌≡◌, ℕ, List, Option, Some, None, Bool, refl, sym, ap, subst, ◌∙◌, length}
+use Rattle.std.proofs.Common.{◌≡◌, ℕ, List, Option, Some, None, Bool, refl, sym, ap, subst, ◌∙◌}
 use Rattle.std.specs.Prelude.{IfSome}
 use Rattle.hv_bundle.specs.declared.file.File.{File}
 use Rattle.hv_bundle.specs.Bundle.{IsBundle}

@@ -1,9 +1,9 @@
 -- When each answer comes, by the words and the bytes.
-use Rattle.std.specs.Prelude.{ℕ, List}
+use Rattle.std.specs.Prelude.{◌≡◌, ℕ, List}
 use Rattle.hv_bundle.specs.declared.file.File.{File}
 use Rattle.xvsim.specs.Words.{AreRunWords, AreWords}
 use Rattle.xvsim.specs.Limits.{IsInput, AreGood}
-use Rattle.xvsim.specs.Refusal.{IsOverLimit, IsDueForBytes}
+use Rattle.xvsim.specs.Refusal.{IsDueForBytes}
 use Rattle.xvsim.specs.declared.refusal.InputRefusal.TheVariants as refusal
 use Rattle.xvsim.specs.declared.status.Status.{Status}
 use Rattle.xvsim.specs.declared.status.Status.TheVariants as status
@@ -32,3 +32,23 @@ abbrev pub IsDue : List (List ℕ) → List ℕ → Status → Type 0
 IsDue words bytes status.Usage = AreWords words → ⊥
 IsDue words bytes (status.StampsSpent stamp) = AreRunWords words × IsDueStatus bytes (status.StampsSpent stamp)
 IsDue words bytes s = AreWords words × IsDueStatus bytes s
+
+-- an answer that any input may get: a fault of reading, or want of memory
+abbrev pub IsOfAny : Status → Type 0
+IsOfAny status.ReadFault = Unit {0}
+IsOfAny status.OutOfMemory = Unit {0}
+IsOfAny s = ⊥
+
+-- an answer that a good input may get: what becomes of it is for the sink and the run to say
+abbrev pub IsOfGood : Status → Type 0
+IsOfGood status.Done = Unit {0}
+IsOfGood status.WriteFault = Unit {0}
+IsOfGood (status.StampsSpent stamp) = Unit {0}
+IsOfGood s = ⊥
+
+-- the answer that came, and one that was due: they are the same, or both are a good input's, or one is any input's
+pub data IsAnswerFor (came due : Status) : Type 0 where
+  same : came ≡ due → IsAnswerFor came due
+  both_good : IsOfGood came → IsOfGood due → IsAnswerFor came due
+  came_to_any : IsOfAny came → IsAnswerFor came due
+  due_to_any : IsOfAny due → IsAnswerFor came due

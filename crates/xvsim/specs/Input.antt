@@ -1,8 +1,6 @@
 -- What was read: a bundle's files, with what a run and a check need of them.
-use Rattle.std.specs.Prelude.{◌≡◌, ℕ, List, Option, Some, Bool, IsTrue, IfSome, length}
+use Rattle.std.specs.Prelude.{◌≡◌, ℕ, List, Option, Bool, IsTrue, IfSome, length}
 use Rattle.std.specs.Io.KnownBytes.{IsAtEnd}
-use Rattle.hv_bundle.specs.declared.file.File.{File}
-use Rattle.hv_bundle.specs.Bundle.{IsBundle}
 use Rattle.hv_model.specs.Files.{load_files}
 use Rattle.xvsim.specs.Opening.{scripts_of, HaveBoard}
 use Rattle.xvsim.specs.Limits.{IsInput, AreWithinLimits}

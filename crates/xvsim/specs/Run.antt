@@ -1,8 +1,7 @@
 -- What a call keeps of its run, and what it writes.
-use Rattle.std.specs.Prelude.{◌≡◌, ℕ, List, Option, Some, None, Bool, true, false, IsTrue, IsSomeAnd, IfSome, Any}
+use Rattle.std.specs.Prelude.{◌≡◌, ℕ, List, Option, Bool, true, false, IsTrue, IsSomeAnd, IfSome, Any}
 use Rattle.std.specs.Io.KnownBytes.{Appends, IsAtEnd}
 use Rattle.hv_base.specs.Writing.{AppendsFront}
-use Rattle.hv_event.specs.declared.event.Event.{Event}
 use Rattle.hv_model.specs.Origin.{origin_of}
 use Rattle.hv_model.specs.Legal.{IsFinishedRun, IsStoppedRun, greatest_stamp}
 use Rattle.hv_model.specs.Rounds.{IsRounds}

@@ -1,7 +1,6 @@
 //! The text of a check.
-ghost use Rattle.std.specs.Prelude.{◌≡◌, ◌++◌, ◌+◌, length, drop, OnOk, IfOk, Ok, Err};
+ghost use Rattle.std.specs.Prelude.{◌≡◌, ◌++◌, ◌+◌, OnOk, IfOk, Ok, Err};
 ghost use Rattle.std.specs.List.{flat_map};
-ghost use Rattle.hv_text.specs.Path.{path_text};
 ghost use Rattle.xvsim.specs.Check.{bundle_line, file_line, host_line, plan_text, guest_line, guests_text, check_text};
 
 use crate::input::Input;

@@ -1,5 +1,5 @@
 //! The limits of what the files of a bundle have.
-ghost use Rattle.std.specs.Prelude.{◌≡◌, ◌≤◌, ◌<◌, ◌^◌, ◌+◌, max, length, map, List, [], slice_index_or, IfErr, OnOk};
+ghost use Rattle.std.specs.Prelude.{◌≡◌, ◌≤◌, ◌<◌, ◌^◌, ◌+◌, max, length, List, [], slice_index_or, IfErr, OnOk};
 ghost use Rattle.hv_text.specs.Lines.{script_lines};
 ghost use Rattle.hv_bundle.specs.declared.file.File.{File};
 ghost use Rattle.hv_model.specs.Files.{load_files};

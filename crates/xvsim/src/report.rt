@@ -1,10 +1,10 @@
 //! The report of a run.
-ghost use Rattle.std.specs.Prelude.{◌≡◌, ◌++◌, [], length, OnOk, IfOk, codes, false, unwrap_or, slice_get, List};
+ghost use Rattle.std.specs.Prelude.{◌≡◌, ◌++◌, [], length, OnOk, IfOk, codes, false, unwrap_or, slice_get};
 ghost use Rattle.std.specs.List.{flat_map};
 ghost use Rattle.std.specs.Fmt.{decimal};
 ghost use Rattle.hv_event.specs.Line.{event_text};
 ghost use Rattle.hv_model.specs.Origin.{origin_of, terminals};
-ghost use Rattle.hv_model.specs.Report.{line, titled, terminals_text, heading, states_text, history_text, AreTranscripts};
+ghost use Rattle.hv_model.specs.Report.{line, titled, terminals_text, heading, AreTranscripts};
 ghost use Rattle.xvsim.specs.Run.{IsReportOf};
 
 use crate::kept::KeptRun;

@@ -1,10 +1,11 @@
 //! The calls.
-ghost use Rattle.std.specs.Prelude.{◌≡◌, ◌≢◌, List, ℕ, map, string_bytes, IfSome, IsSomeAnd, IsTrue};
+ghost use Rattle.std.specs.Prelude.{◌≡◌, ◌≢◌, ℕ, map, string_bytes, IfSome, IsSomeAnd, IsTrue};
 ghost use Rattle.hv_base.specs.Count.{Rose};
+ghost use Rattle.xvsim.specs.declared.status.Status.{Status};
 ghost use Rattle.xvsim.specs.Words.{AreRunWords, AreCheckWords, AreWords};
 ghost use Rattle.xvsim.specs.Run.{IsRunOf, KeepsRun, AppendsReport, AppendsReportFront, has_output, has_run};
 ghost use Rattle.xvsim.specs.Check.{IsAllRead, AppendsCheck, AppendsCheckFront};
-ghost use Rattle.xvsim.specs.Due.{IsDueStatus, IsDue};
+ghost use Rattle.xvsim.specs.Due.{IsDueStatus, IsDue, IsAnswerFor};
 
 use crate::check::check_text;
 use crate::input::read_input;
@@ -124,6 +125,10 @@ pub fn xvsim<S: Source, K: Sink>(
 
     // When each answer comes, where the source tells its bytes.
     ensures due { IfSome (S.left source.old) (λ bytes. IsDue (map string_bytes words.now) bytes result) }
+
+    // And what is due comes: a refusal that is due is answered, unless reading failed or memory ran out.
+    ensures exact { IfSome (S.left source.old) (λ bytes. (due : Status)
+        → IsDue (map string_bytes words.now) bytes due → IsAnswerFor result due) }
     ensures usage { result ≡ Status.Usage → AreWords (map string_bytes words.now) → ⊥ }
     ensures words { result ≢ Status.Usage → AreWords (map string_bytes words.now) }
     ensures unread { result ≡ Status.Usage → source.new ≡ source.old }

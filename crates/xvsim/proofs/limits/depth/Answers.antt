@@ -1,4 +1,4 @@
-use Rattle.std.proofs.Common.{[], arith}
+use Rattle.std.proofs.Common.{arith}
 use Rattle.xvsim.proofs.Counts.{depth_next, depth_end}
 use Rattle.xvsim.proofs.limits.depth.Goals as goal
 

@@ -1,4 +1,4 @@
-use Rattle.std.proofs.Common.{◌≡◌, ℕ, vec_len, List, [], ◌∷◌, ◌++◌, length, sym, ap, ◌∙◌, Bool, arith, refl}
+use Rattle.std.proofs.Common.{◌≡◌, ℕ, vec_len, List, [], ◌∷◌, length, Bool, arith, refl}
 use Rattle.std.specs.Fmt.{decimal}
 use Rattle.std.specs.List.{flat_map}
 use Rattle.hv_event.specs.declared.event.Event.{Event}

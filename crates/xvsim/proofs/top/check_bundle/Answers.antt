@@ -2,7 +2,7 @@ use Rattle.std.proofs.Common.{subst}
 use Rattle.std.specs.Io.KnownBytes.{Appends}
 use Rattle.hv_base.specs.Writing.{AppendsFront}
 use Rattle.xvsim.proofs.Told.{follows, good_of, check_of}
-use Rattle.xvsim.specs.Check.{IsCheckOf, AppendsCheck, AppendsCheckFront}
+use Rattle.xvsim.specs.Check.{IsCheckOf}
 use Rattle.xvsim.proofs.top.check_bundle.Goals as goal
 
 pub returns-in-Ok-write_all-clause-check : goal.returns-in-Ok-write_all-clause-check
