@@ -4,8 +4,8 @@ use Rattle.std.specs.Prelude.{codes, if◌then◌else◌, Option, Some, None, Re
 use Rattle.std.specs.List.{list_all}
 use Rattle.std.specs.Fmt.{decimal}
 use Rattle.std.proofs.lemmas.Fmt.{decimal_injective}
-use Rattle.hv_data.specs.declared.changes.SignalChanges.{SignalChanges}
-use Rattle.hv_data.specs.declared.generation.Generation.{Generation}
+use Rattle.hv_kinds.specs.declared.changes.SignalChanges.{SignalChanges}
+use Rattle.hv_kinds.specs.declared.generation.Generation.{Generation}
 use Rattle.hv_data.specs.Text.{address_text, names_text, bit_text}
 use Rattle.hv_data.specs.Written.{IsNumber, IsNumber8, AreBytes, AreListedNames, AreChanges, IsState, IsAny}
 use Rattle.hv_data.specs.Reading.{AreWordsOf, BeginWith}
@@ -26,7 +26,7 @@ use Rattle.hv_answer.specs.declared.reply.Fetched.{Fetched}
 use Rattle.hv_answer.specs.declared.reply.Accessed.{Accessed}
 use Rattle.hv_answer.specs.declared.reply.Moved.{Moved}
 use Rattle.hv_answer.specs.declared.reply.Sampled.{Sampled}
-use Rattle.hv_answer.specs.declared.reply.Pins.{Pins}
+use Rattle.hv_kinds.specs.declared.pins.Pins.{Pins}
 use Rattle.hv_answer.specs.declared.reply.Pinned.{Pinned}
 use Rattle.hv_answer.specs.Payload.{no_words, bytes_words, names_words, guests_words, windows_words, number_words, changes_words, generation_words, state_words, outcome_words, fetched_words}
 use Rattle.hv_answer.specs.Payload.{accessed_words, harts_words, moved_words, sampled_words, pins_text, woken_text, pinned_words, ticked_words, maybe_words}

@@ -1,9 +1,9 @@
 -- What holds of the words of replies.
 use Rattle.std.proofs.Common.{◌≡◌, ℕ, ◌<◌, List, [], ◌∷◌, length, refl, sym, ap, subst, ◌∙◌, arith}
 use Rattle.std.specs.Prelude.{codes, Option, Result}
-use Rattle.hv_data.specs.declared.changes.SignalChanges.{SignalChanges}
-use Rattle.hv_data.specs.declared.generation.Generation.{Generation}
-use Rattle.hv_data.specs.declared.state.State.{State}
+use Rattle.hv_kinds.specs.declared.changes.SignalChanges.{SignalChanges}
+use Rattle.hv_kinds.specs.declared.generation.Generation.{Generation}
+use Rattle.hv_kinds.specs.declared.state.State.{State}
 use Rattle.hv_data.specs.Text.{address_text}
 use Rattle.hv_data.specs.Written.{IsNumber, AreBytes, AreListedNames, AreChanges, IsState, IsAny}
 use Rattle.hv_data.specs.Data.{HaveNoSpace}

@@ -1,9 +1,9 @@
 -- The words of what steps give.
 use Rattle.std.specs.Prelude.{ℕ, ◌^◌, ◌<◌, Bool, true, false, List, [], ◌∷◌, ◌++◌, codes, Option, Some, None}
 use Rattle.std.specs.Fmt.{decimal}
-use Rattle.hv_data.specs.declared.changes.SignalChanges.{SignalChanges}
-use Rattle.hv_data.specs.declared.generation.Generation.{Generation}
-use Rattle.hv_data.specs.declared.state.State.{State}
+use Rattle.hv_kinds.specs.declared.changes.SignalChanges.{SignalChanges}
+use Rattle.hv_kinds.specs.declared.generation.Generation.{Generation}
+use Rattle.hv_kinds.specs.declared.state.State.{State}
 use Rattle.hv_data.specs.Text.{address_text, hex_text, names_text, state_text, bit_text, changes_text}
 use Rattle.hv_data.specs.Written.{IsNumber, IsNumber8, AreChanges}
 use Rattle.hv_listing.specs.declared.guest.ListedGuest.{ListedGuest}
@@ -15,7 +15,7 @@ use Rattle.hv_answer.specs.declared.reply.Fetched.{Fetched}
 use Rattle.hv_answer.specs.declared.reply.Accessed.{Accessed}
 use Rattle.hv_answer.specs.declared.reply.Moved.{Moved}
 use Rattle.hv_answer.specs.declared.reply.Sampled.{Sampled}
-use Rattle.hv_answer.specs.declared.reply.Pins.{Pins}
+use Rattle.hv_kinds.specs.declared.pins.Pins.{Pins}
 use Rattle.hv_answer.specs.declared.reply.Pinned.{Pinned}
 
 -- Nothing has no words.

@@ -1,8 +1,8 @@
 -- The refusals of each step.
 use Rattle.std.specs.Prelude.{◌≡◌, ◌⊎◌, ℕ, List}
-use Rattle.hv_text.specs.declared.stage.Stage.{Stage}
-use Rattle.hv_cause.specs.declared.Cause.{Cause}
-use Rattle.hv_data.specs.declared.state.StateName.{StateName}
+use Rattle.hv_kinds.specs.declared.stage.Stage.{Stage}
+use Rattle.hv_kinds.specs.declared.cause.Cause.{Cause}
+use Rattle.hv_kinds.specs.declared.state.StateName.{StateName}
 use Rattle.hv_name.specs.declared.name.StepName.{StepName}
 use Rattle.hv_name.specs.declared.name.StepName.TheVariants as name
 use Rattle.hv_refusal.specs.declared.refusal.Refusal.{Refusal}

@@ -8,9 +8,9 @@ ghost use Rattle.hv_answer.specs.Reply.{given_words, IsAnswer};
 
 use crate::refused::refusal_of;
 use hv_data::{
-    Generation, SignalChanges, WordRefusal, behind_word, take_bytes, take_changes, take_names,
-    take_number, take_number8,
+    WordRefusal, behind_word, take_bytes, take_changes, take_names, take_number, take_number8,
 };
+use hv_kinds::{Generation, SignalChanges};
 use hv_listing::{GuestList, WindowList, guests_word, windows_word};
 use hv_name::StepName;
 use hv_refusal::Refusal;

@@ -13,7 +13,7 @@ mod told;
 
 pub use print::print_reply;
 pub use read::{read_reply, replies_are_unambiguous, replies_have_no_space};
-pub use reply::{Accessed, Fetched, Moved, Outcome, Pinned, Pins, Reply, Sampled};
+pub use reply::{Accessed, Fetched, Moved, Outcome, Pinned, Reply, Sampled};
 
 #[cfg(test)]
 mod tests;

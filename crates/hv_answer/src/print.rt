@@ -6,10 +6,9 @@ ghost use Rattle.hv_answer.specs.Payload.{no_words, bytes_words, names_words, wi
 ghost use Rattle.hv_answer.specs.Payload.{moved_words, sampled_words, pins_text, pinned_words, ticked_words, maybe_words, outcome_words};
 ghost use Rattle.hv_answer.specs.Reply.{refused_words, given_words, reply_text};
 
-use crate::reply::{Accessed, Fetched, Moved, Outcome, Pinned, Pins, Reply, Sampled};
-use hv_data::{
-    Generation, SignalChanges, push_address, push_bytes, push_changes, push_names, push_state,
-};
+use crate::reply::{Accessed, Fetched, Moved, Outcome, Pinned, Reply, Sampled};
+use hv_data::{push_address, push_bytes, push_changes, push_names, push_state};
+use hv_kinds::{Generation, Pins, SignalChanges};
 use hv_listing::{WindowList, print_guests, print_windows};
 use hv_look::print_look;
 use hv_refusal::{Refusal, print_refusal};

@@ -1,5 +1,5 @@
 //! Replies: what came of a step.
-use hv_data::{Generation, SignalChanges, State};
+use hv_kinds::{Generation, Pins, SignalChanges, State};
 use hv_listing::{GuestList, WindowList};
 use hv_look::BoxedLook;
 use hv_refusal::Refusal;
@@ -47,14 +47,6 @@ pub struct Sampled {
     pub level: bool,
     /// What changed of the controller's signals.
     pub changes: SignalChanges,
-}
-
-/// The interrupt pins of a VCPU that a region drives.
-#[derive(Clone, Copy, Debug, PartialEq, Eq)]
-pub struct Pins {
-    pub ext: bool,
-    pub soft: bool,
-    pub timer: bool,
 }
 
 /// Pins that a VCPU took from a region.

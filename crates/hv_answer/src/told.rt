@@ -5,13 +5,12 @@ ghost use Rattle.hv_data.specs.Text.{bit_text};
 ghost use Rattle.hv_data.specs.Written.{AreChanges, IsState, IsAny};
 ghost use Rattle.hv_answer.specs.Payload.{state_words, outcome_words, fetched_words, accessed_words, harts_words, moved_words, sampled_words, pins_text, woken_text};
 ghost use Rattle.hv_answer.specs.Payload.{pinned_words, ticked_words, maybe_words, IsOutcome, IsFetched, IsAccessed, AreHarts, IsMoved, IsSampled, IsMaybe};
-ghost use Rattle.hv_answer.specs.declared.reply.Pins.{Pins};
+ghost use Rattle.hv_kinds.specs.declared.pins.Pins.{Pins};
 
 use crate::given::{changes_alone, is_alone, number_alone};
-use crate::reply::{Accessed, Fetched, Moved, Outcome, Pinned, Pins, Sampled};
-use hv_data::{
-    SignalChanges, State, WordRefusal, behind_word, take_address, take_number8, take_state,
-};
+use crate::reply::{Accessed, Fetched, Moved, Outcome, Pinned, Sampled};
+use hv_data::{WordRefusal, behind_word, take_address, take_number8, take_state};
+use hv_kinds::{Pins, SignalChanges, State};
 use hv_text::Bytes;
 use std::alloc::Global;
 

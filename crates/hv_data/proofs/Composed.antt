@@ -8,8 +8,8 @@ use Rattle.std.proofs.lemmas.Fmt.{decimal_is_IsNumeral, decimal_injective, hex_o
 use Rattle.std.proofs.lemmas.Str.Parse.{digit_from_value}
 use Rattle.hv_text.specs.Front.{IsFree}
 use Rattle.hv_text.proofs.Fronts.{same_front}
-use Rattle.hv_data.specs.declared.changes.SignalChanges.{SignalChanges}
-use Rattle.hv_data.specs.declared.generation.Generation.{Generation}
+use Rattle.hv_kinds.specs.declared.changes.SignalChanges.{SignalChanges}
+use Rattle.hv_kinds.specs.declared.generation.Generation.{Generation}
 use Rattle.hv_data.specs.declared.refusal.WordRefusal.{WordRefusal}
 use Rattle.hv_data.specs.declared.refusal.WordRefusal.TheVariants.{BadWord, Memory}
 use Rattle.hv_data.specs.Text.{generation_text, changes_text, bit_text}

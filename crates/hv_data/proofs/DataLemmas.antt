@@ -11,20 +11,20 @@ use Rattle.std.proofs.lemmas.Fmt.{decimal_injective, digits_is_IsNumeral}
 use Rattle.hv_text.specs.Front.{IsFree}
 use Rattle.hv_text.specs.Path.{ArePathNames, slashed, path_text}
 use Rattle.hv_text.proofs.Names.{path_text_same}
-use Rattle.hv_text.specs.declared.stage.Stage.{Stage}
-use Rattle.hv_text.specs.declared.stage.Stage.TheVariants as stage
-use Rattle.hv_text.specs.declared.address.AddressType.{AddressType}
-use Rattle.hv_text.specs.declared.address.AddressType.TheVariants as address
-use Rattle.hv_data.specs.declared.access.Direction.{Direction}
-use Rattle.hv_data.specs.declared.access.Direction.TheVariants as direction
-use Rattle.hv_data.specs.declared.access.AccessKind.{AccessKind}
-use Rattle.hv_data.specs.declared.access.AccessKind.TheVariants as access
-use Rattle.hv_data.specs.declared.changes.SignalChanges.{SignalChanges}
-use Rattle.hv_data.specs.declared.generation.Generation.{Generation}
-use Rattle.hv_data.specs.declared.state.State.{State}
-use Rattle.hv_data.specs.declared.state.State.TheVariants as state
-use Rattle.hv_data.specs.declared.state.StateName.{StateName}
-use Rattle.hv_data.specs.declared.state.StateName.TheVariants as name
+use Rattle.hv_kinds.specs.declared.stage.Stage.{Stage}
+use Rattle.hv_kinds.specs.declared.stage.Stage.TheVariants as stage
+use Rattle.hv_kinds.specs.declared.address.AddressType.{AddressType}
+use Rattle.hv_kinds.specs.declared.address.AddressType.TheVariants as address
+use Rattle.hv_kinds.specs.declared.access.Direction.{Direction}
+use Rattle.hv_kinds.specs.declared.access.Direction.TheVariants as direction
+use Rattle.hv_kinds.specs.declared.access.AccessKind.{AccessKind}
+use Rattle.hv_kinds.specs.declared.access.AccessKind.TheVariants as access
+use Rattle.hv_kinds.specs.declared.changes.SignalChanges.{SignalChanges}
+use Rattle.hv_kinds.specs.declared.generation.Generation.{Generation}
+use Rattle.hv_kinds.specs.declared.state.State.{State}
+use Rattle.hv_kinds.specs.declared.state.State.TheVariants as state
+use Rattle.hv_kinds.specs.declared.state.StateName.{StateName}
+use Rattle.hv_kinds.specs.declared.state.StateName.TheVariants as name
 use Rattle.hv_data.specs.Text.{address_text, generation_text, stage_text, next_stage_text, address_type_text, state_text, state_name_text, direction_text, access_kind_text, changes_text, bit_text}
 use Rattle.hv_data.specs.Written.{IsShown, IsGeneration, IsState, AreChanges}
 use Rattle.hv_data.specs.Data.{Datum, Number, Number8, Address, Hex, Names, Name, PathOf, Born, At, To, TypeOf, StateOf, Named, Towards, Accessed, Changed}

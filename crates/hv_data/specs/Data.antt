@@ -4,14 +4,14 @@ use Rattle.std.specs.List.{AllByRecursion, flat_map}
 use Rattle.std.specs.Fmt.{decimal}
 use Rattle.hv_text.specs.Front.{IsFree}
 use Rattle.hv_text.specs.Path.{ArePathNames, path_text}
-use Rattle.hv_text.specs.declared.stage.Stage.{Stage}
-use Rattle.hv_text.specs.declared.address.AddressType.{AddressType}
-use Rattle.hv_data.specs.declared.access.Direction.{Direction}
-use Rattle.hv_data.specs.declared.access.AccessKind.{AccessKind}
-use Rattle.hv_data.specs.declared.changes.SignalChanges.{SignalChanges}
-use Rattle.hv_data.specs.declared.generation.Generation.{Generation}
-use Rattle.hv_data.specs.declared.state.State.{State}
-use Rattle.hv_data.specs.declared.state.StateName.{StateName}
+use Rattle.hv_kinds.specs.declared.stage.Stage.{Stage}
+use Rattle.hv_kinds.specs.declared.address.AddressType.{AddressType}
+use Rattle.hv_kinds.specs.declared.access.Direction.{Direction}
+use Rattle.hv_kinds.specs.declared.access.AccessKind.{AccessKind}
+use Rattle.hv_kinds.specs.declared.changes.SignalChanges.{SignalChanges}
+use Rattle.hv_kinds.specs.declared.generation.Generation.{Generation}
+use Rattle.hv_kinds.specs.declared.state.State.{State}
+use Rattle.hv_kinds.specs.declared.state.StateName.{StateName}
 use Rattle.hv_data.specs.Text.{address_text, hex_text, names_text, name_text, generation_text, stage_text, next_stage_text, address_type_text, state_text, state_name_text, direction_text, access_kind_text, changes_text}
 use Rattle.hv_data.specs.Written.{IsNumber, IsNumber8, AreBytes, AreListedNames, IsWord, IsGeneration, IsState, AreChanges}
 

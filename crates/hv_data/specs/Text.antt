@@ -3,20 +3,20 @@ use Rattle.std.specs.Prelude.{ℕ, false, List, [], ◌∷◌, ◌++◌, codes, 
 use Rattle.std.specs.List.{flat_map}
 use Rattle.std.specs.Fmt.{decimal, digits}
 use Rattle.hv_text.specs.Number.{padded_hex}
-use Rattle.hv_text.specs.declared.stage.Stage.{Stage}
-use Rattle.hv_text.specs.declared.stage.Stage.TheVariants as stage
-use Rattle.hv_text.specs.declared.address.AddressType.{AddressType}
-use Rattle.hv_text.specs.declared.address.AddressType.TheVariants as address
-use Rattle.hv_data.specs.declared.access.Direction.{Direction}
-use Rattle.hv_data.specs.declared.access.Direction.TheVariants as direction
-use Rattle.hv_data.specs.declared.access.AccessKind.{AccessKind}
-use Rattle.hv_data.specs.declared.access.AccessKind.TheVariants as access
-use Rattle.hv_data.specs.declared.changes.SignalChanges.{SignalChanges}
-use Rattle.hv_data.specs.declared.generation.Generation.{Generation}
-use Rattle.hv_data.specs.declared.state.State.{State}
-use Rattle.hv_data.specs.declared.state.State.TheVariants as state
-use Rattle.hv_data.specs.declared.state.StateName.{StateName}
-use Rattle.hv_data.specs.declared.state.StateName.TheVariants as name
+use Rattle.hv_kinds.specs.declared.stage.Stage.{Stage}
+use Rattle.hv_kinds.specs.declared.stage.Stage.TheVariants as stage
+use Rattle.hv_kinds.specs.declared.address.AddressType.{AddressType}
+use Rattle.hv_kinds.specs.declared.address.AddressType.TheVariants as address
+use Rattle.hv_kinds.specs.declared.access.Direction.{Direction}
+use Rattle.hv_kinds.specs.declared.access.Direction.TheVariants as direction
+use Rattle.hv_kinds.specs.declared.access.AccessKind.{AccessKind}
+use Rattle.hv_kinds.specs.declared.access.AccessKind.TheVariants as access
+use Rattle.hv_kinds.specs.declared.changes.SignalChanges.{SignalChanges}
+use Rattle.hv_kinds.specs.declared.generation.Generation.{Generation}
+use Rattle.hv_kinds.specs.declared.state.State.{State}
+use Rattle.hv_kinds.specs.declared.state.State.TheVariants as state
+use Rattle.hv_kinds.specs.declared.state.StateName.{StateName}
+use Rattle.hv_kinds.specs.declared.state.StateName.TheVariants as name
 
 -- An address, a machine word or a register's value is written as `0x` and lower-case hexadecimal digits.
 abbrev pub address_text : ℕ → List ℕ

@@ -2,10 +2,10 @@
 use Rattle.std.specs.Prelude.{◌≡◌, ◌⊎◌, ℕ, ◌^◌, ◌<◌, ◌≤◌, List, ◌∷◌, [], ◌++◌, length, Option, Some, None}
 use Rattle.std.specs.List.{AllByRecursion}
 use Rattle.hv_text.specs.Path.{IsName}
-use Rattle.hv_data.specs.declared.changes.SignalChanges.{SignalChanges}
-use Rattle.hv_data.specs.declared.generation.Generation.{Generation}
-use Rattle.hv_data.specs.declared.state.State.{State}
-use Rattle.hv_data.specs.declared.state.State.TheVariants as state
+use Rattle.hv_kinds.specs.declared.changes.SignalChanges.{SignalChanges}
+use Rattle.hv_kinds.specs.declared.generation.Generation.{Generation}
+use Rattle.hv_kinds.specs.declared.state.State.{State}
+use Rattle.hv_kinds.specs.declared.state.State.TheVariants as state
 
 -- A number has at most 64 bits.
 abbrev pub IsNumber : ℕ → Type 0

@@ -6,21 +6,14 @@
 //! region's interrupt line and of the pins of VCPUs.
 #![tactic(auto)]
 
-mod access;
-mod changes;
-mod generation;
 mod law;
 mod parts;
 mod push;
 mod refusal;
 mod spelled;
-mod state;
 mod take;
 mod word;
 
-pub use access::{AccessKind, Direction};
-pub use changes::SignalChanges;
-pub use generation::Generation;
 pub use law::{data_are_unambiguous, words_have_no_space};
 pub use parts::{behind_word, first_word, split_at_byte};
 pub use push::{
@@ -33,7 +26,6 @@ pub use spelled::{
     access_kind_word, address_type_word, direction_word, next_stage_word, stage_word,
     state_name_word,
 };
-pub use state::{State, StateName};
 pub use take::{
     take_access_kind, take_address, take_address_type, take_bytes, take_changes, take_direction,
     take_generation, take_name, take_names, take_next_stage, take_number, take_number8, take_path,

@@ -4,11 +4,10 @@ ghost use Rattle.hv_text.specs.Path.{path_text};
 ghost use Rattle.hv_data.specs.Text.{address_text, hex_pairs, hex_text, further_names, names_text, generation_text, stage_text, next_stage_text};
 ghost use Rattle.hv_data.specs.Text.{address_type_text, state_text, state_name_text, direction_text, access_kind_text, changes_text};
 
-use crate::access::{AccessKind, Direction};
-use crate::changes::SignalChanges;
-use crate::generation::Generation;
-use crate::state::{State, StateName};
-use hv_text::{AddressType, Bytes, Path, Stage, Strings, push_hex};
+use hv_kinds::{
+    AccessKind, AddressType, Direction, Generation, SignalChanges, Stage, State, StateName,
+};
+use hv_text::{Bytes, Path, Strings, push_hex};
 use std::alloc::{AllocError, Global};
 
 /// Appends an address, a machine word or a register's value. At `Err` nothing has changed.

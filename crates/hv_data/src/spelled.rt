@@ -1,15 +1,13 @@
 //! Words that name a choice.
 ghost use Rattle.std.specs.Prelude.{◌≡◌, ◌≢◌, Option, MatchOption};
-ghost use Rattle.hv_text.specs.declared.stage.Stage.{Stage};
-ghost use Rattle.hv_text.specs.declared.address.AddressType.{AddressType};
-ghost use Rattle.hv_data.specs.declared.access.Direction.{Direction};
-ghost use Rattle.hv_data.specs.declared.access.AccessKind.{AccessKind};
-ghost use Rattle.hv_data.specs.declared.state.StateName.{StateName};
+ghost use Rattle.hv_kinds.specs.declared.stage.Stage.{Stage};
+ghost use Rattle.hv_kinds.specs.declared.address.AddressType.{AddressType};
+ghost use Rattle.hv_kinds.specs.declared.access.Direction.{Direction};
+ghost use Rattle.hv_kinds.specs.declared.access.AccessKind.{AccessKind};
+ghost use Rattle.hv_kinds.specs.declared.state.StateName.{StateName};
 ghost use Rattle.hv_data.specs.Text.{stage_text, next_stage_text, address_type_text, state_name_text, direction_text, access_kind_text};
 
-use crate::access::{AccessKind, Direction};
-use crate::state::StateName;
-use hv_text::{AddressType, Stage};
+use hv_kinds::{AccessKind, AddressType, Direction, Stage, StateName};
 
 /// The stage that a word names.
 pub fn stage_word(word: &[u8]) -> Option<Stage>

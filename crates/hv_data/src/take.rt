@@ -2,34 +2,33 @@
 ghost use Rattle.std.specs.Prelude.{List, ℕ, Option, MatchResult};
 ghost use Rattle.std.specs.Fmt.{decimal};
 ghost use Rattle.hv_text.specs.Path.{ArePathNames, path_text};
-ghost use Rattle.hv_text.specs.declared.stage.Stage.{Stage};
-ghost use Rattle.hv_text.specs.declared.address.AddressType.{AddressType};
-ghost use Rattle.hv_data.specs.declared.access.Direction.{Direction};
-ghost use Rattle.hv_data.specs.declared.access.AccessKind.{AccessKind};
-ghost use Rattle.hv_data.specs.declared.changes.SignalChanges.{SignalChanges};
-ghost use Rattle.hv_data.specs.declared.generation.Generation.{Generation};
-ghost use Rattle.hv_data.specs.declared.state.State.{State};
-ghost use Rattle.hv_data.specs.declared.state.StateName.{StateName};
+ghost use Rattle.hv_kinds.specs.declared.stage.Stage.{Stage};
+ghost use Rattle.hv_kinds.specs.declared.address.AddressType.{AddressType};
+ghost use Rattle.hv_kinds.specs.declared.access.Direction.{Direction};
+ghost use Rattle.hv_kinds.specs.declared.access.AccessKind.{AccessKind};
+ghost use Rattle.hv_kinds.specs.declared.changes.SignalChanges.{SignalChanges};
+ghost use Rattle.hv_kinds.specs.declared.generation.Generation.{Generation};
+ghost use Rattle.hv_kinds.specs.declared.state.State.{State};
+ghost use Rattle.hv_kinds.specs.declared.state.StateName.{StateName};
 ghost use Rattle.hv_data.specs.Text.{address_text, hex_text, names_text, name_text, generation_text, stage_text, next_stage_text};
 ghost use Rattle.hv_data.specs.Text.{address_type_text, state_text, state_name_text, direction_text, access_kind_text, changes_text};
 ghost use Rattle.hv_data.specs.Written.{IsNumber, IsNumber8, AreBytes, AreListedNames, IsWord, IsGeneration, IsState, AreChanges, IsAny};
 ghost use Rattle.hv_data.specs.Reading.{Because, BeginWith};
 
-use crate::access::{AccessKind, Direction};
-use crate::changes::SignalChanges;
-use crate::generation::Generation;
 use crate::parts::first_word;
 use crate::refusal::WordRefusal;
 use crate::spelled::{
     access_kind_word, address_type_word, direction_word, next_stage_word, stage_word,
     state_name_word,
 };
-use crate::state::{State, StateName};
 use crate::word::{
     address_word, bytes_word, changes_word, generation_word, name_word, names_word, number_word,
     number8_word, path_word, state_word,
 };
-use hv_text::{AddressType, Bytes, Path, Stage, Strings};
+use hv_kinds::{
+    AccessKind, AddressType, Direction, Generation, SignalChanges, Stage, State, StateName,
+};
+use hv_text::{Bytes, Path, Strings};
 use std::alloc::Global;
 
 /// The number of the first word, and the words behind it.

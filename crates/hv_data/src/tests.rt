@@ -1,6 +1,7 @@
 //! The words of data, read and printed.
 use super::*;
-use hv_text::{AddressType, Bytes, Stage, push_decimal};
+use hv_kinds::{AddressType, Stage};
+use hv_text::{Bytes, push_decimal};
 use std::test::Fail;
 
 /// One word of each kind, as it is written by hand.

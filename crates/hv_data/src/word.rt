@@ -8,12 +8,10 @@ ghost use Rattle.hv_data.specs.Text.{address_text, hex_text, names_text, name_te
 ghost use Rattle.hv_data.specs.Written.{IsNumber, IsNumber8, AreBytes, IsListedName, AreListedNames, IsShown, IsWord, IsGeneration, IsState, AreChanges};
 ghost use Rattle.hv_data.specs.Reading.{Because, Reads};
 
-use crate::changes::SignalChanges;
-use crate::generation::Generation;
 use crate::parts::split_at_byte;
 use crate::push::push_address;
 use crate::refusal::WordRefusal;
-use crate::state::State;
+use hv_kinds::{Generation, SignalChanges, State};
 use hv_text::{
     Bytes, Path, PathRefusal, Strings, is_name, read_number, strip_end, strip_front, word_at,
 };

@@ -2,8 +2,7 @@
 ghost use Rattle.std.specs.Prelude.{◌≡◌};
 ghost use Rattle.hv_dtgram.specs.Contents.{entry_labels};
 
-use hv_dtree::Items;
-use hv_text::Bytes;
+use hv_text::{Bytes, Items};
 
 /// A name and the offset where it stands, of a reference that of its ampersand.
 #[derive(Debug, Drop)]

@@ -6,7 +6,7 @@ ghost use Rattle.hv_dtgram.specs.Refused.{IsRefusal};
 use crate::contents::Entry;
 use crate::gathered::gathered_entries;
 use crate::syntax::{SyntaxRefusal, source_tokens};
-use hv_dtree::Items;
+use hv_text::Items;
 use std::alloc::Global;
 
 /// The entries of a text that is source by its grammar.

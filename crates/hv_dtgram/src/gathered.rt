@@ -12,8 +12,7 @@ use crate::lexed::mode_after;
 use crate::symbol::Symbol;
 use crate::word::kind_and_word;
 use hv_dtlex::{Mode, Token, TokenKind, cell_of, next_token, number_value, string_value};
-use hv_dtree::Items;
-use hv_text::Bytes;
+use hv_text::{Bytes, Items};
 use std::alloc::{AllocError, Global};
 use std::mem;
 

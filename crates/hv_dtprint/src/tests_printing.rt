@@ -1,7 +1,7 @@
 //! Printed sources worked out by hand.
 use super::*;
-use hv_dtree::{Items, Node, Prop};
-use hv_text::Bytes;
+use hv_dtree::{Node, Prop};
+use hv_text::{Bytes, Items};
 use std::alloc::{AllocError, Global};
 use std::test::Fail;
 

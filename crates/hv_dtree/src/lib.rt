@@ -3,14 +3,12 @@
 //! phandle: the number of a node that others refer to
 #![tactic(auto)]
 
-mod items;
 mod node;
 #[cfg(test)]
 mod tests;
 mod tree;
 mod values;
 
-pub use items::Items;
 pub use node::{Node, Prop, PropRefusal};
 pub use tree::Tree;
 pub use values::big_endian;

@@ -2,8 +2,7 @@
 ghost use Rattle.std.specs.Prelude.{◌≡◌};
 ghost use Rattle.hv_dtree.specs.Nodes.{name_of, props_of, children_of};
 
-use crate::items::Items;
-use hv_text::Bytes;
+use hv_text::{Bytes, Items};
 
 /// A named value.
 #[derive(Debug, Drop)]

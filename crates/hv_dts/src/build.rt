@@ -8,8 +8,8 @@ ghost use Rattle.hv_dts.specs.Building.{Built, nothing_built, next_built, frame_
 
 use crate::values::{LinkMaps, cell_bytes, values_bytes};
 use hv_dtgram::{Entry, Named};
-use hv_dtree::{Items, Node, Prop};
-use hv_text::Bytes;
+use hv_dtree::{Node, Prop};
+use hv_text::{Bytes, Items};
 use std::alloc::{AllocError, Global};
 use std::mem;
 

@@ -12,8 +12,7 @@ ghost use Rattle.hv_dts.specs.Linking.{IsSmall, some_if, names_path, following_p
 
 use crate::values::{LinkMaps, is_phandle_name, phandle_number};
 use hv_dtgram::{Entry, Named};
-use hv_dtree::Items;
-use hv_text::Bytes;
+use hv_text::{Bytes, Items};
 use std::alloc::{AllocError, Global};
 use std::collections::{BTreeMap, BTreeSet};
 

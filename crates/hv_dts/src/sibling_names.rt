@@ -5,8 +5,7 @@ ghost use Rattle.hv_dts.specs.Sets.{HasNames};
 
 use crate::names::lesser;
 use hv_dtgram::Named;
-use hv_dtree::Items;
-use hv_text::Bytes;
+use hv_text::{Bytes, Items};
 use std::alloc::{AllocError, Global};
 use std::collections::BTreeSet;
 

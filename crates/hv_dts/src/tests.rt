@@ -1,7 +1,7 @@
 //! Printed sources worked out by hand.
 use super::*;
-use hv_dtree::{Items, Node, Tree};
-use hv_text::Bytes;
+use hv_dtree::{Node, Tree};
+use hv_text::{Bytes, Items};
 use std::test::Fail;
 
 #[test]

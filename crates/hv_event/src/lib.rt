@@ -11,8 +11,10 @@ mod read;
 mod refusal;
 
 pub use event::{ActorId, CellId, Event};
-pub use hv_answer::{Accessed, Fetched, Moved, Outcome, Pinned, Pins, Reply, Sampled};
-pub use hv_data::{AccessKind, Direction, Generation, SignalChanges, State, StateName};
+pub use hv_answer::{Accessed, Fetched, Moved, Outcome, Pinned, Reply, Sampled};
+pub use hv_kinds::{
+    AccessKind, Cause, Direction, Generation, Pins, SignalChanges, State, StateName,
+};
 pub use hv_listing::{GuestList, ListedGuest, ListedWindow, WindowList};
 pub use hv_refusal::{Refusal, print_refusal};
 pub use hv_step::{

@@ -1,7 +1,6 @@
 -- What a hart's context is asked and how it changes.
 use Rattle.std.specs.Prelude.{ℕ, ◌+◌, ◌%◌, ◌^◌, ◌==◌, if◌then◌else◌, slice_index, slice_set}
 use Rattle.hv_exec.specs.declared.context.Ctx.{Ctx}
-use Rattle.hv_exec.specs.declared.context.InterruptPins.{InterruptPins}
 
 -- the value of a register, which is 0 for x0
 abbrev pub register_of : Ctx → ℕ → ℕ
@@ -23,7 +22,3 @@ next_pc ctx = (ctx.pc + 4) % 2 ^ 64
 -- the context at the next instruction
 abbrev pub advanced : Ctx → Ctx
 advanced ctx = at ctx (next_pc ctx)
-
--- mip: bit 3 is the software pin, bit 7 the timer pin and bit 11 the external pin
-abbrev pub pending_bits : InterruptPins → ℕ
-pending_bits pins = (if pins.soft then 2 ^ 3 else 0) + (if pins.timer then 2 ^ 7 else 0) + (if pins.ext then 2 ^ 11 else 0)

@@ -1,7 +1,8 @@
 -- What an instruction does to a context, by the RISC-V unprivileged manual.
 use Rattle.std.specs.Prelude.{◌≡◌, ⊤, ℕ, ◌-◌, ◌*◌, ◌%◌, ◌^◌, ◌<◌, ℤ, pos, ◌+ℤ◌, Bool, not, ◌==◌, nat_lt, if◌then◌else◌, bit_and}
 use Rattle.hv_exec.specs.Arithmetic.{is_less}
-use Rattle.hv_exec.specs.Context.{register_of, with_register, at, advanced, next_pc, pending_bits}
+use Rattle.hv_exec.specs.Context.{register_of, with_register, at, advanced, next_pc}
+use Rattle.hv_kinds.specs.Pins.{pending_bits}
 use Rattle.hv_exec.specs.Numbers.{modulo, sign_extended}
 use Rattle.hv_exec.specs.Operation.{operation_of, IsSize}
 use Rattle.hv_exec.specs.Result.{result_of}

@@ -1,15 +1,9 @@
 //! The context of a hart: its registers, its control and status registers, and its pins.
 
 ghost use Rattle.std.specs.Prelude.{◌≡◌, ℕ, ◌+◌, ◌*◌, ◌%◌, ◌^◌, ◌<◌, if◌then◌else◌};
-ghost use Rattle.hv_exec.specs.Context.{register_of, with_register, advanced, pending_bits};
+ghost use Rattle.hv_exec.specs.Context.{register_of, with_register, advanced};
 
-/// The levels of the interrupt lines of a hart.
-#[derive(Clone, Copy, Drop)]
-pub struct InterruptPins {
-    pub ext: bool,
-    pub soft: bool,
-    pub timer: bool,
-}
+use hv_kinds::Pins;
 
 /// What a hart holds between two instructions.
 #[derive(Clone, Copy, Drop)]
@@ -25,7 +19,7 @@ pub struct Ctx {
     pub mcause: u64,
     pub mtval: u64,
     pub hartid: u64,
-    pub pins: InterruptPins,
+    pub pins: Pins,
 }
 
 /// What is left to do after an instruction.
@@ -53,18 +47,6 @@ pub enum After {
     Wait,
     /// The instruction is one that `system` carries out.
     System,
-}
-
-impl InterruptPins {
-    /// The bits of mip.
-    pub fn pending(self) -> u64
-        ensures { result ≡ pending_bits self }
-    {
-        let soft = if self.soft { 1 << 3 } else { 0 };
-        let timer = if self.timer { 1 << 7 } else { 0 };
-        let ext = if self.ext { 1 << 11 } else { 0 };
-        soft + timer + ext
-    }
 }
 
 impl Ctx {

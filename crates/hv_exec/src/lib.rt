@@ -12,6 +12,6 @@ mod result;
 mod tests;
 mod word;
 
-pub use context::{After, Ctx, InterruptPins};
+pub use context::{After, Ctx};
 pub use inst::Inst;
 pub use perform::{exec, finish_load, finish_store};

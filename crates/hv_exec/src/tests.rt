@@ -1,13 +1,14 @@
 #![tactic(auto, unfolding(crate::specs::Fields::IsWellFormed))]
 
-use crate::context::{After, Ctx, InterruptPins};
+use crate::context::{After, Ctx};
 use crate::inst::Inst;
 use crate::operation::Alu;
 use crate::perform::{exec, finish_load, finish_store};
 use crate::result::result_of;
+use hv_kinds::Pins;
 
 fn zero_context() -> Ctx {
-    let pins = InterruptPins {
+    let pins = Pins {
         ext: false,
         soft: false,
         timer: false,

@@ -2,7 +2,8 @@
 ghost use Rattle.std.specs.Prelude.{◌≡◌};
 ghost use Rattle.hv_host.specs.declared.refusal.BoardRefusal.TheVariants.{Memory};
 
-use hv_text::{Bytes, LimitName};
+use hv_kinds::LimitName;
+use hv_text::Bytes;
 use std::alloc::AllocError;
 
 /// Why a host tree gives no board.

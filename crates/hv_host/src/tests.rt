@@ -1,7 +1,7 @@
 //! What host trees say.
 use super::*;
+use hv_kinds::LimitName;
 use hv_plan::Cause;
-use hv_text::LimitName;
 use std::test::Fail;
 
 const TREE: &[u8] = b"/dts-v1/;

@@ -1,12 +1,13 @@
 use crate::decoding::decode;
 use crate::encoding::encode;
-use hv_exec::{After, Ctx, Inst, InterruptPins, exec};
+use hv_exec::{After, Ctx, Inst, exec};
+use hv_kinds::Pins;
 
 fn context_with(left: u64, right: u64) -> Ctx {
     let mut x = [0; 32];
     x[1] = left;
     x[2] = right;
-    let pins = InterruptPins {
+    let pins = Pins {
         ext: false,
         soft: false,
         timer: false,

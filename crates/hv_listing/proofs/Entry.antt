@@ -4,10 +4,10 @@ use Rattle.std.specs.Prelude.{codes}
 use Rattle.std.specs.List.{AllByRecursion, join_with_byte}
 use Rattle.std.specs.Char.{digit_value}
 use Rattle.std.specs.Fmt.{decimal}
-use Rattle.hv_text.specs.declared.stage.Stage.{Stage}
-use Rattle.hv_text.specs.declared.stage.Stage.TheVariants as stage
-use Rattle.hv_text.specs.declared.address.AddressType.{AddressType}
-use Rattle.hv_text.specs.declared.address.AddressType.TheVariants as address
+use Rattle.hv_kinds.specs.declared.stage.Stage.{Stage}
+use Rattle.hv_kinds.specs.declared.stage.Stage.TheVariants as stage
+use Rattle.hv_kinds.specs.declared.address.AddressType.{AddressType}
+use Rattle.hv_kinds.specs.declared.address.AddressType.TheVariants as address
 use Rattle.hv_text.specs.Front.{IsFree}
 use Rattle.hv_data.specs.Text.{address_text, stage_text, address_type_text}
 use Rattle.hv_data.specs.Data.{Datum, Number8, Address, TypeOf, AreData, data_words, HaveData, HaveNoSpace}

@@ -1,7 +1,8 @@
 //! Guests as `guests` lists them.
 ghost use Rattle.std.specs.Prelude.{◌≡◌};
 
-use hv_text::{Bytes, Stage};
+use hv_kinds::Stage;
+use hv_text::Bytes;
 use std::marker::Model;
 
 /// A guest of the directory.

@@ -1,7 +1,7 @@
 //! Lists of guests and of windows read from words.
 ghost use Rattle.std.specs.Prelude.{◌≡◌, [], ◌∷◌, List, ℕ, MatchResult};
-ghost use Rattle.hv_text.specs.declared.stage.Stage.{Stage};
-ghost use Rattle.hv_text.specs.declared.address.AddressType.{AddressType};
+ghost use Rattle.hv_kinds.specs.declared.stage.Stage.{Stage};
+ghost use Rattle.hv_kinds.specs.declared.address.AddressType.{AddressType};
 ghost use Rattle.hv_data.specs.Data.{Number8, Address, Name, At, TypeOf, HaveData};
 ghost use Rattle.hv_data.specs.Reading.{Because, Reads};
 ghost use Rattle.hv_listing.specs.declared.guest.ListedGuest.{ListedGuest};
@@ -13,7 +13,8 @@ use crate::fields::entry_fields;
 use crate::guest::{GuestList, ListedGuest};
 use crate::window::{ListedWindow, WindowList};
 use hv_data::{WordRefusal, take_address, take_address_type, take_name, take_number8, take_stage};
-use hv_text::{AddressType, Bytes, Stage, strip_front};
+use hv_kinds::{AddressType, Stage};
+use hv_text::{Bytes, strip_front};
 use std::alloc::Global;
 
 /// A guest's name, slot and stage.

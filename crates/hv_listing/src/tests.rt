@@ -1,7 +1,8 @@
 //! Lists printed and read.
 use super::*;
 use hv_data::WordRefusal;
-use hv_text::{AddressType, Bytes, Stage};
+use hv_kinds::{AddressType, Stage};
+use hv_text::Bytes;
 use std::alloc::Global;
 use std::test::Fail;
 

@@ -1,7 +1,7 @@
 //! Windows as `regions` lists them.
 ghost use Rattle.std.specs.Prelude.{◌≡◌};
 
-use hv_text::AddressType;
+use hv_kinds::AddressType;
 use std::marker::Model;
 
 /// A window of a guest's address space.

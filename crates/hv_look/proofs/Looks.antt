@@ -1,7 +1,7 @@
 -- Looks and their words.
 use Rattle.std.proofs.Common.{◌≡◌, ℕ, ◌<◌, ◌≤◌, ◌^◌, List, [], ◌∷◌, ◌++◌, length, refl, sym, ap, ◌∙◌, arith, length-append}
 use Rattle.std.specs.Fmt.{decimal}
-use Rattle.hv_data.specs.declared.state.State.{State}
+use Rattle.hv_kinds.specs.declared.state.State.{State}
 use Rattle.hv_data.specs.Text.{state_text}
 use Rattle.hv_data.specs.Written.{IsNumber}
 use Rattle.hv_data.specs.Reading.{AreWordsOf, BeginWith}

@@ -1,5 +1,5 @@
 //! Looks: the state and the registers of a VCPU.
-use hv_data::State;
+use hv_kinds::State;
 
 /// The control and status registers of a VCPU.
 #[derive(Clone, Copy, Debug)]

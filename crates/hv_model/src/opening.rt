@@ -1,9 +1,8 @@
 //! What a run begins with.
 use hv_bundle::File;
-use hv_dtree::Items;
 use hv_host::Fault;
 use hv_plan::GuestPlan;
-use hv_text::{Bytes, Strings};
+use hv_text::{Bytes, Items, Strings};
 
 /// What a run begins with.
 #[derive(Drop)]

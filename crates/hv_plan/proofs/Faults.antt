@@ -8,7 +8,7 @@ use Rattle.hv_dtree.specs.declared.node.Node.{Node}
 use Rattle.hv_plan.specs.Properties.{first_of}
 use Rattle.hv_plan.specs.Guests.{Fault, faults_from, faults_of, Plans}
 use Rattle.hv_plan.specs.Reading.{Reads, Passes, Tells}
-use Rattle.hv_cause.specs.declared.Cause.{Cause}
+use Rattle.hv_kinds.specs.declared.cause.Cause.{Cause}
 use Rattle.hv_plan.specs.declared.refusal.PlanRefusal.{PlanRefusal}
 use Rattle.hv_plan.specs.declared.refusal.PlanRefusal.TheVariants.{NoGuest, BadNode, Memory}
 

@@ -4,8 +4,8 @@ use Rattle.std.specs.Prelude.{Option, Some, None, Result, Ok, Err, IfOk, unwrap_
 use Rattle.std.specs.List.{All}
 use Rattle.std.proofs.lemmas.Bool.{false≢true, and_parts}
 use Rattle.std.proofs.lemmas.List.Elements.{All-map, All-same, All-nil, All-cons}
-use Rattle.hv_text.specs.declared.limit.LimitName.{LimitName}
-use Rattle.hv_text.specs.declared.limit.LimitName.TheVariants.{Nest, Areas, Guests}
+use Rattle.hv_kinds.specs.declared.limit.LimitName.{LimitName}
+use Rattle.hv_kinds.specs.declared.limit.LimitName.TheVariants.{Nest, Areas, Guests}
 use Rattle.hv_dtree.specs.Nodes.{name_of}
 use Rattle.hv_dtree.specs.declared.node.Node.{Node}
 use Rattle.hv_plan.specs.Properties.{is_within}

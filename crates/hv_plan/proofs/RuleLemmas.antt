@@ -7,8 +7,8 @@ use Rattle.std.proofs.lemmas.Bool.{false≢true, and_parts}
 use Rattle.std.proofs.lemmas.Bool.Decides.{nat_tests}
 use Rattle.std.proofs.lemmas.List.Elements.{All-cons, All-nil}
 use Rattle.hv_text.specs.Path.{path_text}
-use Rattle.hv_text.specs.declared.address.AddressType.{AddressType}
-use Rattle.hv_text.specs.declared.address.AddressType.TheVariants.{Memory}
+use Rattle.hv_kinds.specs.declared.address.AddressType.{AddressType}
+use Rattle.hv_kinds.specs.declared.address.AddressType.TheVariants.{Memory}
 use Rattle.hv_dtree.specs.declared.node.Node.{Node}
 use Rattle.hv_region.specs.Addresses.{end_of}
 use Rattle.hv_region.specs.Plans.{IsVcpuPlan, IsRegionPlan, FitsForm, IsLink}
@@ -20,7 +20,7 @@ use Rattle.hv_plan.specs.Regions.{region_causes, is_range, is_part, keeps_sort, 
 use Rattle.hv_plan.specs.declared.sort.Sort.{Sort}
 use Rattle.hv_plan.specs.declared.sort.Sort.TheVariants.{Ram, Rom, Device, Real, Alias}
 use Rattle.hv_plan.specs.Guests.{faults_from}
-use Rattle.hv_cause.specs.declared.Cause.{Cause}
+use Rattle.hv_kinds.specs.declared.cause.Cause.{Cause}
 
 -- both parts of an empty list are empty
 pub no_parts : {X : Type 0} (xs ys : List X) → xs ++ ys ≡ [] → (xs ≡ []) × (ys ≡ [])

@@ -11,8 +11,8 @@ use Rattle.hv_plan.specs.Regions.{region_causes}
 use Rattle.hv_plan.specs.Links.{link_causes, region_plans}
 use Rattle.hv_plan.specs.Windows.{overlap_causes, alias_causes}
 use Rattle.hv_plan.specs.declared.guest.GuestPlan.{GuestPlan}
-use Rattle.hv_cause.specs.declared.Cause.{Cause}
-use Rattle.hv_cause.specs.declared.Cause.TheVariants.{Missing, TooMany}
+use Rattle.hv_kinds.specs.declared.cause.Cause.{Cause}
+use Rattle.hv_kinds.specs.declared.cause.Cause.TheVariants.{Missing, TooMany}
 use Rattle.hv_plan.specs.declared.refusal.PlanRefusal.{PlanRefusal}
 use Rattle.hv_plan.specs.declared.refusal.PlanRefusal.TheVariants.{NoGuest, BadNode, Memory}
 

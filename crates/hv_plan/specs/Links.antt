@@ -2,15 +2,15 @@
 use Rattle.std.specs.Prelude.{ℕ, Bool, false, ◌&&◌, ◌==◌, not, List, ◌++◌, take, map, if◌then◌else◌, codes, unwrap_or, Option, Some, None}
 use Rattle.std.specs.List.{list_any, position_from, enumerate_from}
 use Rattle.std.specs.Option.{option_map_or, option_map, option_and_then, option_or}
-use Rattle.hv_text.specs.declared.address.AddressType.TheVariants.{Memory}
+use Rattle.hv_kinds.specs.declared.address.AddressType.TheVariants.{Memory}
 use Rattle.hv_dtree.specs.Nodes.{prop_value, name_of}
 use Rattle.hv_dtree.specs.declared.node.Node.{Node}
 use Rattle.hv_region.specs.declared.plan.RegionPlan.{RegionPlan}
 use Rattle.hv_plan.specs.Properties.{has, cell_in, cell_of}
 use Rattle.hv_plan.specs.Vcpus.{when}
 use Rattle.hv_plan.specs.Regions.{is_device, sort_of, source_of, type_of, base_of, size_of, form_by}
-use Rattle.hv_cause.specs.declared.Cause.{Cause}
-use Rattle.hv_cause.specs.declared.Cause.TheVariants.{Parent, SourceUsed}
+use Rattle.hv_kinds.specs.declared.cause.Cause.{Cause}
+use Rattle.hv_kinds.specs.declared.cause.Cause.TheVariants.{Parent, SourceUsed}
 
 -- a device with interrupts, which are ignored on other regions
 abbrev pub interrupts : Node → Bool

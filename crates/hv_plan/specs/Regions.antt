@@ -3,8 +3,8 @@ use Rattle.std.specs.Prelude.{ℕ, ◌+◌, ◌-◌, Bool, true, false, ◌&&◌
 use Rattle.std.specs.List.{list_any, position_from, slice_split, slice_get}
 use Rattle.std.specs.Option.{option_map_or, option_map, option_and_then}
 use Rattle.std.specs.Cmp.Lexicographic.{pointwise}
-use Rattle.hv_text.specs.declared.address.AddressType.{AddressType}
-use Rattle.hv_text.specs.declared.address.AddressType.TheVariants.{Memory, Io}
+use Rattle.hv_kinds.specs.declared.address.AddressType.{AddressType}
+use Rattle.hv_kinds.specs.declared.address.AddressType.TheVariants.{Memory, Io}
 use Rattle.hv_dtree.specs.Nodes.{prop_value}
 use Rattle.hv_dtree.specs.declared.node.Node.{Node}
 use Rattle.hv_region.specs.Addresses.{end_of}
@@ -12,8 +12,8 @@ use Rattle.hv_region.specs.declared.plan.Form.{Form}
 use Rattle.hv_region.specs.declared.plan.Form.TheVariants as form
 use Rattle.hv_plan.specs.Properties.{has, cell_of, number_of, number_or, text_of, says, is_within}
 use Rattle.hv_plan.specs.Vcpus.{when}
-use Rattle.hv_cause.specs.declared.Cause.{Cause}
-use Rattle.hv_cause.specs.declared.Cause.TheVariants as cause
+use Rattle.hv_kinds.specs.declared.cause.Cause.{Cause}
+use Rattle.hv_kinds.specs.declared.cause.Cause.TheVariants as cause
 use Rattle.hv_plan.specs.declared.sort.Sort.{Sort}
 use Rattle.hv_plan.specs.declared.sort.Sort.TheVariants.{Ram, Rom, Device, Real, Alias}
 

@@ -1,7 +1,7 @@
 -- What holds of each plan that is given.
 use Rattle.std.specs.Prelude.{◌≡◌, ℕ, ◌+◌, ◌<◌, ◌≤◌, false, List, length, All, slice_get, Option, Some, None}
 use Rattle.std.specs.List.{AllPairs, Any}
-use Rattle.hv_text.specs.declared.address.AddressType.{AddressType}
+use Rattle.hv_kinds.specs.declared.address.AddressType.{AddressType}
 use Rattle.hv_region.specs.Plans.{IsVcpuPlan, IsRegionPlan}
 use Rattle.hv_region.specs.declared.plan.Form.{Form}
 use Rattle.hv_region.specs.declared.plan.Form.TheVariants.{Real, Alias}

@@ -2,8 +2,8 @@
 use Rattle.std.specs.Prelude.{◌≡◌, ℕ, ◌+◌, Bool, ◌&&◌, not, List, [], ◌∷◌, ◌++◌, length, map, filter, max, nat_le, if◌then◌else◌, codes, unwrap_or, Option, Some, Result, Ok, Err}
 use Rattle.std.specs.Option.{option_and_then, option_map_or}
 use Rattle.hv_text.specs.Path.{path_text}
-use Rattle.hv_text.specs.declared.limit.LimitName.{LimitName}
-use Rattle.hv_text.specs.declared.limit.LimitName.TheVariants.{Nest, Areas, Guests}
+use Rattle.hv_kinds.specs.declared.limit.LimitName.{LimitName}
+use Rattle.hv_kinds.specs.declared.limit.LimitName.TheVariants.{Nest, Areas, Guests}
 use Rattle.hv_dtree.specs.Nodes.{prop_value, child_named, children_of, name_of}
 use Rattle.hv_dtree.specs.declared.node.Node.{Node}
 use Rattle.hv_dtree.specs.declared.node.Node.TheFolds.{fold-Node}

@@ -4,8 +4,8 @@ use Rattle.std.specs.Option.{option_map_or}
 use Rattle.hv_dtree.specs.declared.node.Node.{Node}
 use Rattle.hv_region.specs.declared.plan.VcpuPlan.{VcpuPlan}
 use Rattle.hv_plan.specs.Properties.{has, number_of, number_or, is_within}
-use Rattle.hv_cause.specs.declared.Cause.{Cause}
-use Rattle.hv_cause.specs.declared.Cause.TheVariants.{Missing, Form}
+use Rattle.hv_kinds.specs.declared.cause.Cause.{Cause}
+use Rattle.hv_kinds.specs.declared.cause.Cause.TheVariants.{Missing, Form}
 
 -- a cause, where a test says so
 abbrev pub when : Bool → Cause → List Cause

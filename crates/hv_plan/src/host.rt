@@ -12,7 +12,8 @@ use crate::path::{path_of_one, path_of_two};
 use crate::properties::{cell, child, has, nodes_in, number};
 use crate::refusal::HostRefusal;
 use hv_dtree::{Node, Tree};
-use hv_text::{Bytes, LimitName};
+use hv_kinds::LimitName;
+use hv_text::Bytes;
 use std::alloc::{AllocError, Global};
 
 const MOST_NEST: u64 = 32;

@@ -4,7 +4,8 @@ use super::*;
 use crate::host::settings_below;
 use crate::tests::{inner, nodes};
 use hv_dtree::Node;
-use hv_text::{Bytes, LimitName};
+use hv_kinds::LimitName;
+use hv_text::Bytes;
 use std::alloc::{AllocError, Global};
 use std::test::Fail;
 

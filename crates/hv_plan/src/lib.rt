@@ -23,5 +23,5 @@ mod windows;
 
 pub use guest::{GuestPlan, plan_guest};
 pub use host::{Host, host_settings};
-pub use hv_cause::Cause;
+pub use hv_kinds::Cause;
 pub use refusal::{HostRefusal, PlanRefusal};

@@ -6,10 +6,10 @@ ghost use Rattle.hv_plan.specs.Links.{interrupts, parent_phandle, has_phandle, l
 
 use crate::properties::{cell, has, number};
 use crate::region::{form_of, is_device, source_of, type_of};
-use hv_cause::Cause;
 use hv_dtree::Node;
+use hv_kinds::{AddressType, Cause};
 use hv_region::RegionPlan;
-use hv_text::{AddressType, Bytes};
+use hv_text::Bytes;
 use std::alloc::{AllocError, Global};
 
 /// Whether a region is a device with interrupts.

@@ -4,7 +4,7 @@ ghost use Rattle.hv_text.specs.Path.{path_text};
 ghost use Rattle.hv_plan.specs.Reading.{Tells};
 
 use crate::refusal::PlanRefusal;
-use hv_cause::Cause;
+use hv_kinds::Cause;
 use hv_text::Bytes;
 use std::alloc::{AllocError, Global};
 

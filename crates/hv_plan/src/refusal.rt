@@ -1,8 +1,8 @@
 //! What is wrong with a tree.
 ghost use Rattle.std.specs.Prelude.{◌≡◌};
 
-use hv_cause::Cause;
-use hv_text::{Bytes, LimitName};
+use hv_kinds::{Cause, LimitName};
+use hv_text::Bytes;
 use std::alloc::{AllocError, AllocFailed};
 
 /// Why there is no plan of a guest.

@@ -7,10 +7,10 @@ ghost use Rattle.hv_plan.specs.Regions.{sort_of, type_of, is_device, required, s
 
 use crate::properties::{cell, has, is_within, number, number_or, says, text};
 use crate::sort::Sort;
-use hv_cause::Cause;
 use hv_dtree::Node;
+use hv_kinds::{AddressType, Cause};
 use hv_region::{Form, end_of};
-use hv_text::{AddressType, Bytes, Strings, word_at};
+use hv_text::{Bytes, Strings, word_at};
 use std::alloc::{AllocError, Global};
 
 /// How many bytes a region of memory has at most.

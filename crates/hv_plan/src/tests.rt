@@ -2,9 +2,10 @@
 
 use super::*;
 use crate::guest::plan_below;
-use hv_dtree::{Items, Node, Prop, Tree};
+use hv_dtree::{Node, Prop, Tree};
+use hv_kinds::AddressType;
 use hv_region::Form;
-use hv_text::{AddressType, Bytes};
+use hv_text::{Bytes, Items};
 use std::alloc::{AllocError, Global};
 use std::test::Fail;
 

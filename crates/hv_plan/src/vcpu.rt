@@ -4,8 +4,8 @@ ghost use Rattle.hv_plan.specs.Properties.{first_of};
 ghost use Rattle.hv_plan.specs.Vcpus.{vcpu_causes, vcpu_plan};
 
 use crate::properties::{has, number, number_or};
-use hv_cause::Cause;
 use hv_dtree::Node;
+use hv_kinds::Cause;
 use hv_region::VcpuPlan;
 
 /// The plan of a VCPU, or the first thing that is wrong with its node.

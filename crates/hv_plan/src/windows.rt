@@ -4,9 +4,8 @@ ghost use Rattle.std.specs.List.{list_any};
 ghost use Rattle.hv_plan.specs.Properties.{first_of};
 ghost use Rattle.hv_plan.specs.Windows.{meets, holds, is_alias, blocks, has_range, lacks_target, overlap_causes, alias_causes};
 
-use hv_cause::Cause;
+use hv_kinds::{AddressType, Cause};
 use hv_region::{Form, RegionPlan};
-use hv_text::AddressType;
 
 /// Whether two regions have an address in common.
 fn meets(one: &RegionPlan, other: &RegionPlan) -> bool

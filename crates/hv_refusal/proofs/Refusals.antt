@@ -1,12 +1,12 @@
 -- Refusals and their words.
 use Rattle.std.proofs.Common.{◌≡◌, ℕ, ◌<◌, Bool, true, not, eqb, List, [], ◌∷◌, length, refl, sym, ap, subst, ◌∙◌, inl, inr, arith}
-use Rattle.std.specs.Prelude.{◌⊎◌, Some, None, Result, Ok, Err, MatchResult}
+use Rattle.std.specs.Prelude.{◌⊎◌, if◌then◌else◌, codes, Option, Some, None, Result, Ok, Err, MatchResult}
 use Rattle.std.specs.List.{list_all}
 use Rattle.std.specs.Fmt.{decimal}
 use Rattle.std.proofs.lemmas.Fmt.{decimal_injective}
-use Rattle.hv_cause.specs.declared.Cause.{Cause}
-use Rattle.hv_cause.specs.declared.Cause.TheVariants as cause
-use Rattle.hv_cause.specs.Cause.{cause_word, cause_spelled}
+use Rattle.hv_kinds.specs.declared.cause.Cause.{Cause}
+use Rattle.hv_kinds.specs.declared.cause.Cause.TheVariants as cause
+use Rattle.hv_kinds.specs.Cause.{cause_word}
 use Rattle.hv_data.specs.declared.refusal.WordRefusal.{WordRefusal}
 use Rattle.hv_data.specs.Text.{stage_text, state_name_text}
 use Rattle.hv_data.specs.Written.{IsNumber, IsNumber8, IsAny}
@@ -20,7 +20,7 @@ use Rattle.hv_refusal.specs.declared.arguments.Telling.{Telling}
 use Rattle.hv_refusal.specs.declared.arguments.Telling.TheVariants as telling
 use Rattle.hv_refusal.specs.Refusal.{refusal_name, refusal_arguments, refusal_words, IsRefusal}
 use Rattle.hv_refusal.proofs.Nodes.{node_path_free}
-use Rattle.hv_refusal.specs.Reading.{AreRefusalWords, bare_spelled, telling_word, telling_spelled, IsAlone, AreArguments}
+use Rattle.hv_refusal.specs.Reading.{AreRefusalWords, is_word, bare_spelled, telling_word, telling_spelled, IsAlone, AreArguments}
 
 -- a refusal that tells nothing
 pub record IsBare (why : Refusal) : Type 0 where
@@ -119,6 +119,19 @@ same_alone good shown same words x y h k =
 
 same_row : (m n : ℕ) → IsNumber8 m → IsNumber8 n → decimal m ≡ decimal n → m ≡ n
 same_row m n h k e = decimal_injective m n (omega arith) (omega arith) e
+
+-- the cause that a word stands for
+abbrev cause_spelled : List ℕ → Option Cause
+cause_spelled word =
+    if is_word word (codes "Missing") then Some cause.Missing else (
+    if is_word word (codes "TooMany") then Some cause.TooMany else (
+    if is_word word (codes "Kind") then Some cause.Kind else (
+    if is_word word (codes "Form") then Some cause.Form else (
+    if is_word word (codes "NoArea") then Some cause.NoArea else (
+    if is_word word (codes "Parent") then Some cause.Parent else (
+    if is_word word (codes "SourceUsed") then Some cause.SourceUsed else (
+    if is_word word (codes "Overlap") then Some cause.Overlap else (
+    if is_word word (codes "AliasTarget") then Some cause.AliasTarget else None))))))))
 
 cause_back : (c : Cause) → cause_spelled (cause_word c) ≡ Some c
 cause_back cause.Missing = refl

@@ -1,10 +1,11 @@
 -- What words are read as.
-use Rattle.std.specs.Prelude.{◌≡◌, ℕ, if◌then◌else◌, List, [], ◌∷◌, codes, Option, Some, None}
+use Rattle.std.specs.Prelude.{◌≡◌, ℕ, nat_eq, Bool, if◌then◌else◌, List, [], ◌∷◌, codes, Option, Some, None}
+use Rattle.std.specs.Cmp.Lexicographic.{pointwise}
 use Rattle.std.specs.Fmt.{decimal}
-use Rattle.hv_text.specs.declared.stage.Stage.{Stage}
-use Rattle.hv_cause.specs.declared.Cause.{Cause}
-use Rattle.hv_cause.specs.Cause.{cause_word, is_word}
-use Rattle.hv_data.specs.declared.state.StateName.{StateName}
+use Rattle.hv_kinds.specs.declared.stage.Stage.{Stage}
+use Rattle.hv_kinds.specs.declared.cause.Cause.{Cause}
+use Rattle.hv_kinds.specs.Cause.{cause_word}
+use Rattle.hv_kinds.specs.declared.state.StateName.{StateName}
 use Rattle.hv_data.specs.Text.{stage_text, state_name_text}
 use Rattle.hv_data.specs.Written.{IsNumber, IsNumber8, IsAny}
 use Rattle.hv_refusal.specs.declared.refusal.Refusal.{Refusal}
@@ -13,6 +14,10 @@ use Rattle.hv_refusal.specs.declared.arguments.Telling.{Telling}
 use Rattle.hv_refusal.specs.declared.arguments.Telling.TheVariants as telling
 use Rattle.hv_refusal.specs.Node.{IsNodePath}
 use Rattle.hv_refusal.specs.Refusal.{IsRefusal, refusal_words}
+
+-- Whether a word is another.
+abbrev pub is_word : List ℕ → List ℕ → Bool
+is_word word other = pointwise nat_eq word other
 
 -- The words are this refusal's.
 abbrev pub AreRefusalWords : List (List ℕ) → Refusal → Type 0

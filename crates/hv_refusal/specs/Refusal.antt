@@ -2,7 +2,7 @@
 use Rattle.std.specs.Prelude.{ℕ, List, [], ◌∷◌, codes}
 use Rattle.std.specs.List.{join_with_byte}
 use Rattle.std.specs.Fmt.{decimal}
-use Rattle.hv_cause.specs.Cause.{cause_word}
+use Rattle.hv_kinds.specs.Cause.{cause_word}
 use Rattle.hv_data.specs.Text.{stage_text, state_name_text}
 use Rattle.hv_data.specs.Written.{IsNumber, IsNumber8}
 use Rattle.hv_refusal.specs.declared.refusal.Refusal.{Refusal}

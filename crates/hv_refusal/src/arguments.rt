@@ -1,8 +1,8 @@
 //! What refusals tell behind their names.
 ghost use Rattle.std.specs.Prelude.{◌≡◌, ℕ, MatchResult, IfSome};
 ghost use Rattle.std.specs.Fmt.{decimal};
-ghost use Rattle.hv_text.specs.declared.stage.Stage.{Stage};
-ghost use Rattle.hv_data.specs.declared.state.StateName.{StateName};
+ghost use Rattle.hv_kinds.specs.declared.stage.Stage.{Stage};
+ghost use Rattle.hv_kinds.specs.declared.state.StateName.{StateName};
 ghost use Rattle.hv_data.specs.Text.{stage_text, state_name_text};
 ghost use Rattle.hv_data.specs.Written.{IsNumber, IsNumber8, IsAny};
 ghost use Rattle.hv_data.specs.Reading.{Because};
@@ -11,9 +11,9 @@ ghost use Rattle.hv_refusal.specs.Reading.{telling_word, telling_spelled, IsAlon
 
 use crate::node::node_path_word;
 use crate::refusal::Refusal;
-use hv_cause::find_cause;
-use hv_data::{StateName, WordRefusal, take_number, take_number8, take_stage, take_state_name};
-use hv_text::{Bytes, Stage};
+use hv_data::{WordRefusal, take_number, take_number8, take_stage, take_state_name};
+use hv_kinds::{Cause, Stage, StateName};
+use hv_text::Bytes;
 use std::alloc::Global;
 
 /// The name of a refusal that tells something.
@@ -118,7 +118,7 @@ fn node_alone(alloc: Global, words: &[Bytes]) -> Result<Refusal, WordRefusal>
     let [path, cause] = words else {
         return Err(WordRefusal::BadWord);
     };
-    let Some(cause) = find_cause(cause.as_slice()) else {
+    let Some(cause) = Cause::named(cause.as_slice()) else {
         return Err(WordRefusal::BadWord);
     };
     let path = node_path_word(alloc, path.as_slice())?;

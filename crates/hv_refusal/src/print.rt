@@ -4,7 +4,6 @@ ghost use Rattle.std.specs.Fmt.{decimal};
 ghost use Rattle.hv_refusal.specs.Refusal.{refusal_text};
 
 use crate::refusal::Refusal;
-use hv_cause::push_cause;
 use hv_data::{push_stage, push_state_name};
 use hv_text::{Bytes, push_decimal};
 use std::alloc::{AllocError, Global};
@@ -42,7 +41,7 @@ fn push_refusal(alloc: Global, to: &mut Bytes, refusal: &Refusal) -> Result<(), 
             to.append(b"BadNode ")?;
             to.append(path.as_slice())?;
             to.append(b" ")?;
-            push_cause(to, *cause)
+            to.append(cause.name().as_bytes())
         }
         Refusal::NameUsed => to.append(b"NameUsed"),
         Refusal::NoSlot => to.append(b"NoSlot"),

@@ -1,7 +1,6 @@
 //! Refusals: why a step is refused.
-use hv_cause::Cause;
-use hv_data::StateName;
-use hv_text::{Bytes, Stage};
+use hv_kinds::{Cause, Stage, StateName};
+use hv_text::Bytes;
 
 /// Why a step is refused.
 #[derive(Clone, Debug, Drop, PartialEq, Eq)]

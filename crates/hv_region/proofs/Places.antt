@@ -4,8 +4,8 @@ use Rattle.std.specs.List.{All, AllPairs, filter, insert}
 use Rattle.std.proofs.lemmas.Bool.{cases_lt}
 use Rattle.std.proofs.lemmas.List.Elements.{All-cons, All-take, All-drop, All-weaker, All-filter}
 use Rattle.std.proofs.lemmas.List.Kept.{AllPairs-cons, AllPairs-filter}
-use Rattle.hv_text.specs.declared.address.AddressType.{AddressType}
-use Rattle.hv_text.specs.declared.address.AddressType.TheVariants.{Memory, Io}
+use Rattle.hv_kinds.specs.declared.address.AddressType.{AddressType}
+use Rattle.hv_kinds.specs.declared.address.AddressType.TheVariants.{Memory, Io}
 use Rattle.hv_region.specs.Addresses.{end_of, guest_address}
 use Rattle.hv_region.specs.Windows.{IsWindow, IsBefore, IsInRange, AreWindows, HasNone, Meets, IsPlaceFor, IsPutInto, start_of}
 use Rattle.hv_region.specs.declared.window.Window.{Window}

@@ -1,7 +1,7 @@
 -- Guest addresses, which are either of memory or of I/O.
 use Rattle.std.specs.Prelude.{◌≡◌, ℕ, ◌+◌, ◌^◌, ◌<◌, ◌≤◌, Option, Some, None}
-use Rattle.hv_text.specs.declared.address.AddressType.{AddressType}
-use Rattle.hv_text.specs.declared.address.AddressType.TheVariants.{Memory, Io}
+use Rattle.hv_kinds.specs.declared.address.AddressType.{AddressType}
+use Rattle.hv_kinds.specs.declared.address.AddressType.TheVariants.{Memory, Io}
 
 -- the addresses of a type lie below this
 abbrev pub end_of : AddressType → ℕ

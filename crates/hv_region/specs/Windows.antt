@@ -1,7 +1,7 @@
 -- Windows, the ranges of guest addresses that reach a region, and lists of them.
 use Rattle.std.specs.Prelude.{◌≡◌, ◌≢◌, ℕ, ◌+◌, ◌<◌, ◌≤◌, ◌==◌, List, ◌∷◌, ◌++◌, length, take, drop, min, not, filter, All, Contains, Option, Some, None, Result, Ok, Err}
 use Rattle.std.specs.List.{AllPairs}
-use Rattle.hv_text.specs.declared.address.AddressType.{AddressType}
+use Rattle.hv_kinds.specs.declared.address.AddressType.{AddressType}
 use Rattle.hv_region.specs.Addresses.{end_of, guest_address}
 use Rattle.hv_region.specs.declared.window.Window.{Window}
 use Rattle.hv_region.specs.declared.window.RegionRefusal.{RegionRefusal}

@@ -2,7 +2,7 @@
 ghost use Rattle.std.specs.Prelude.{◌≡◌, ◌^◌};
 ghost use Rattle.hv_region.specs.Addresses.{end_of, IsPlaceOf};
 
-use hv_text::AddressType;
+use hv_kinds::AddressType;
 
 pub(crate) const MEMORY_END: u64 = 0x0100_0000_0000_0000;
 

@@ -3,7 +3,7 @@ ghost use Rattle.std.specs.Prelude.{◌≡◌, ◌≢◌, ◌<◌, ◌≤◌, �
 ghost use Rattle.hv_region.specs.Windows.{AreWindows, Meets, IsInRange, HasNone, IsLesserOf, Adds, Finds, FindsTarget, IsLeastMet, IsPlaceFor, without_owner, without_target};
 
 use crate::window::{RegionRefusal, Window};
-use hv_text::AddressType;
+use hv_kinds::AddressType;
 use std::alloc::{AllocError, Global};
 use std::marker::Model;
 

@@ -1,6 +1,7 @@
 //! Plans of VCPUs and regions.
 
-use hv_text::{AddressType, Bytes, Strings};
+use hv_kinds::AddressType;
+use hv_text::{Bytes, Strings};
 
 /// How a VCPU begins.
 #[derive(Clone, Copy, Debug, PartialEq, Eq)]

@@ -1,7 +1,8 @@
 //! Windows worked out by hand.
 
 use super::*;
-use hv_text::{AddressType, Bytes, Strings};
+use hv_kinds::AddressType;
+use hv_text::{Bytes, Strings};
 use std::test::Fail;
 
 const MEMORY: AddressType = AddressType::Memory;

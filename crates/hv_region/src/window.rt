@@ -3,7 +3,7 @@ ghost use Rattle.std.specs.Prelude.{◌≡◌, ◌↔◌, ◌<◌, ◌≤◌, �
 ghost use Rattle.hv_region.specs.Windows.{Holds, Meets, IsInRange, start_of};
 
 use crate::address::{MEMORY_END, end_of};
-use hv_text::AddressType;
+use hv_kinds::AddressType;
 
 /// A range of guest addresses that reaches a region.
 #[derive(Clone, Copy, Debug, PartialEq, Eq)]

@@ -1,7 +1,7 @@
 -- Words in front of others: which step they are, and that it is one.
 use Rattle.std.proofs.Common.{◌≡◌, ℕ, Bool, true, false, List, [], ◌∷◌, ◌++◌, refl, sym, ap, subst, ◌∙◌}
 use Rattle.std.specs.Prelude.{Option, Some, None, is_some, Result, Ok, Err, MatchResult}
-use Rattle.hv_data.specs.declared.generation.Generation.{Generation}
+use Rattle.hv_kinds.specs.declared.generation.Generation.{Generation}
 use Rattle.hv_data.specs.declared.refusal.WordRefusal.{WordRefusal}
 use Rattle.hv_data.specs.Text.{generation_text}
 use Rattle.hv_data.specs.Reading.{Because}

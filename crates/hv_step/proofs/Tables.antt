@@ -1,13 +1,13 @@
 -- Steps told by their names and their data.
 use Rattle.std.proofs.Common.{◌≡◌, ℕ, List, [], ◌∷◌, refl, ap}
 use Rattle.std.specs.Prelude.{Option, Some, None, slice_index_or}
-use Rattle.hv_text.specs.declared.stage.Stage.{Stage}
-use Rattle.hv_text.specs.declared.stage.Stage.TheVariants as stage
-use Rattle.hv_data.specs.declared.access.Direction.{Direction}
-use Rattle.hv_data.specs.declared.access.Direction.TheVariants as direction
-use Rattle.hv_data.specs.declared.access.AccessKind.{AccessKind}
-use Rattle.hv_data.specs.declared.access.AccessKind.TheVariants as access
-use Rattle.hv_data.specs.declared.generation.Generation.{Generation}
+use Rattle.hv_kinds.specs.declared.stage.Stage.{Stage}
+use Rattle.hv_kinds.specs.declared.stage.Stage.TheVariants as stage
+use Rattle.hv_kinds.specs.declared.access.Direction.{Direction}
+use Rattle.hv_kinds.specs.declared.access.Direction.TheVariants as direction
+use Rattle.hv_kinds.specs.declared.access.AccessKind.{AccessKind}
+use Rattle.hv_kinds.specs.declared.access.AccessKind.TheVariants as access
+use Rattle.hv_kinds.specs.declared.generation.Generation.{Generation}
 use Rattle.hv_name.specs.declared.name.StepName.{StepName}
 use Rattle.hv_name.specs.declared.name.StepName.TheVariants as name
 use Rattle.hv_data.specs.Data.{Datum, Number, Number8, Address, Hex, Name, PathOf, Born, At, To, Towards, Accessed}

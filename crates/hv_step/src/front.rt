@@ -1,12 +1,13 @@
 //! Data of several words taken from the front.
 ghost use Rattle.std.specs.Prelude.{[], ◌∷◌, ℕ, List, Option, Some, MatchResult};
-ghost use Rattle.hv_text.specs.declared.stage.Stage.{Stage};
-ghost use Rattle.hv_data.specs.declared.generation.Generation.{Generation};
+ghost use Rattle.hv_kinds.specs.declared.stage.Stage.{Stage};
+ghost use Rattle.hv_kinds.specs.declared.generation.Generation.{Generation};
 ghost use Rattle.hv_data.specs.Data.{Name, Born, At, HaveData};
 ghost use Rattle.hv_data.specs.Reading.{Because};
 
-use hv_data::{Generation, WordRefusal, take_generation, take_name, take_stage};
-use hv_text::{Bytes, Stage};
+use hv_data::{WordRefusal, take_generation, take_name, take_stage};
+use hv_kinds::{Generation, Stage};
+use hv_text::Bytes;
 use std::alloc::Global;
 
 /// A generation that there is.

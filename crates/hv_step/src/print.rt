@@ -10,7 +10,8 @@ use crate::spaced::{
     push_path_word, push_stage_word,
 };
 use crate::step::{Access, ByGuest, Fault, Fetch, Load, Mem, Pin, Sample, Step};
-use hv_data::{Generation, push_access_kind, push_direction, push_next_stage};
+use hv_data::{push_access_kind, push_direction, push_next_stage};
+use hv_kinds::Generation;
 use hv_name::push_name;
 use hv_text::Bytes;
 use std::alloc::{AllocError, Global};

@@ -4,8 +4,9 @@ ghost use Rattle.std.specs.Fmt.{decimal};
 ghost use Rattle.hv_text.specs.Path.{path_text};
 ghost use Rattle.hv_data.specs.Text.{address_text, hex_text, name_text, generation_text, stage_text};
 
-use hv_data::{Generation, push_address, push_bytes, push_generation, push_path, push_stage};
-use hv_text::{Bytes, Path, Stage, push_decimal};
+use hv_data::{push_address, push_bytes, push_generation, push_path, push_stage};
+use hv_kinds::{Generation, Stage};
+use hv_text::{Bytes, Path, push_decimal};
 use std::alloc::{AllocError, Global};
 
 pub fn push_number_word(alloc: Global, to: &mut Bytes, value: u64) -> Result<(), AllocError>

@@ -1,5 +1,5 @@
 //! Steps and their data.
-use hv_data::{AccessKind, Direction, Generation};
+use hv_kinds::{AccessKind, Direction, Generation};
 use hv_text::{Bytes, Path};
 
 /// Reads a line that is no command.

@@ -1,6 +1,6 @@
 -- The control and status registers of machine mode, by the RISC-V privileged manual.
 use Rattle.std.specs.Prelude.{ℕ, ◌+◌, ◌-◌, ◌*◌, ◌/◌, ◌%◌, ◌^◌, Bool, true, false, ◌==◌, if◌then◌else◌, Option, Some, None, bit_and}
-use Rattle.hv_exec.specs.Context.{pending_bits}
+use Rattle.hv_kinds.specs.Pins.{pending_bits}
 use Rattle.hv_exec.specs.declared.context.Ctx.{Ctx}
 use Rattle.hv_trap.specs.declared.csr.Csr.{Csr}
 use Rattle.hv_trap.specs.declared.csr.Csr.TheVariants.{Mstatus, Mie, Mtvec, Mscratch, Mepc, Mcause, Mtval, Mip, Mhartid}

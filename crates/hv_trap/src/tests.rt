@@ -3,12 +3,13 @@
 use crate::csr::mstatus;
 use crate::entry::{choose, trap};
 use crate::instructions::system;
-use hv_exec::{After, Ctx, Inst, InterruptPins};
+use hv_exec::{After, Ctx, Inst};
+use hv_kinds::Pins;
 
 fn context() -> Ctx {
     let mut x = [0; 32];
     x[1] = u64::MAX;
-    let pins = InterruptPins {
+    let pins = Pins {
         ext: false,
         soft: false,
         timer: false,

@@ -1,8 +1,8 @@
 -- For each input one answer is due, but for those of a good input and those of any.
 use Rattle.std.proofs.Common.{◌≡◌, ℕ, ◌+◌, ◌<◌, ◌≤◌, List, Option, Some, None, inl, inr, length, refl, sym, ap, subst, ◌∙◌, arith}
 use Rattle.std.specs.Prelude.{IfSome, Err}
-use Rattle.hv_text.specs.declared.limit.LimitName.{LimitName}
-use Rattle.hv_text.specs.declared.limit.LimitName.TheVariants as limit
+use Rattle.hv_kinds.specs.declared.limit.LimitName.{LimitName}
+use Rattle.hv_kinds.specs.declared.limit.LimitName.TheVariants as limit
 use Rattle.hv_bundle.specs.declared.file.File.{File}
 use Rattle.hv_bundle.specs.Bundle.{IsBadAt}
 use Rattle.hv_bundle.proofs.Fitting.{one_reading}

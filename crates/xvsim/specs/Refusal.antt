@@ -1,7 +1,7 @@
 -- Why an input is refused.
 use Rattle.std.specs.Prelude.{◌≡◌, ◌⊎◌, ℕ, ◌+◌, ◌<◌, ◌≤◌, List, length, Err}
-use Rattle.hv_text.specs.declared.limit.LimitName.{LimitName}
-use Rattle.hv_text.specs.declared.limit.LimitName.TheVariants as limit
+use Rattle.hv_kinds.specs.declared.limit.LimitName.{LimitName}
+use Rattle.hv_kinds.specs.declared.limit.LimitName.TheVariants as limit
 use Rattle.hv_bundle.specs.declared.file.File.{File}
 use Rattle.hv_bundle.specs.Bundle.{IsBadAt}
 use Rattle.hv_host.specs.declared.refusal.BoardRefusal.TheVariants as board

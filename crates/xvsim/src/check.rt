@@ -5,7 +5,6 @@ ghost use Rattle.xvsim.specs.Check.{bundle_line, file_line, host_line, plan_text
 
 use crate::input::Input;
 use hv_bundle::File;
-use hv_cause::push_cause;
 use hv_host::Fault;
 use hv_plan::{GuestPlan, Host};
 use hv_text::{Bytes, push_decimal};
@@ -67,7 +66,7 @@ fn push_bad(to: &mut Bytes, fault: &Fault) -> Result<(), AllocError>
     to.append(b" bad ")?;
     to.append(fault.path.as_slice())?;
     to.append(b" ")?;
-    push_cause(to, fault.cause)
+    to.append(fault.cause.name().as_bytes())
 }
 
 fn push_plan(

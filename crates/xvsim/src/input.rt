@@ -18,8 +18,9 @@ use hv_base::{ReadEnd, Source, read_all};
 use hv_bundle::{BundleRefusal, File, read_bundle};
 use hv_files::FileTree;
 use hv_host::{Board, BoardRefusal, read_board};
+use hv_kinds::LimitName;
 use hv_load::load_tree;
-use hv_text::{Bytes, LimitName, Path};
+use hv_text::{Bytes, Path};
 use std::alloc::{AllocError, Global};
 
 const MOST_BYTES: usize = 67_108_864;

@@ -9,7 +9,8 @@ ghost use Rattle.xvsim.specs.Refusal.{IsDueForFiles};
 
 use crate::refusal::InputRefusal;
 use hv_bundle::File;
-use hv_text::{Bytes, LimitName};
+use hv_kinds::LimitName;
+use hv_text::Bytes;
 use hv_words::count_lines;
 
 const MOST_FILES: usize = 1024;

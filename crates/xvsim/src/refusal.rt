@@ -4,7 +4,8 @@ ghost use Rattle.xvsim.specs.Refusal.{status_of};
 ghost use Rattle.xvsim.specs.declared.refusal.InputRefusal.TheVariants.{Memory};
 
 use crate::status::Status;
-use hv_text::{Bytes, LimitName};
+use hv_kinds::LimitName;
+use hv_text::Bytes;
 use std::alloc::AllocError;
 
 /// Why an input is refused.

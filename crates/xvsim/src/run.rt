@@ -9,13 +9,12 @@ ghost use Rattle.xvsim.specs.Made.{IsMadeFrom};
 use crate::input::Input;
 use crate::kept::{Final, KeptRun};
 use crate::report::report_of_run;
-use hv_dtree::Items;
 use hv_files::FileTree;
 use hv_host::Board;
 use hv_model::Opening;
 use hv_plan::Host;
 use hv_rounds::{Outcome, run};
-use hv_text::{Bytes, Strings};
+use hv_text::{Bytes, Items, Strings};
 use std::alloc::{AllocError, Global};
 
 /// What a run begins with, and the tree of its files.

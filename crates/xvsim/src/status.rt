@@ -1,5 +1,6 @@
 //! How a call ended.
-use hv_text::{Bytes, LimitName};
+use hv_kinds::LimitName;
+use hv_text::Bytes;
 
 /// How a call ended.
 #[derive(Debug, Drop, PartialEq)]

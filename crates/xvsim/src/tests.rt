@@ -3,7 +3,8 @@ ghost use Rattle.std.specs.Prelude.{◌<◌};
 
 use super::*;
 use hv_base::{MemSink, MemSource};
-use hv_text::{Bytes, LimitName, push_decimal};
+use hv_kinds::LimitName;
+use hv_text::{Bytes, push_decimal};
 use std::alloc::{AllocError, Global};
 use std::test::Fail;
 

@@ -1,6 +1,6 @@
 use Rattle.std.proofs.Common.{ℕ, List, ◌∷◌, []}
 use Rattle.std.proofs.lemmas.Result.{err_from_is_err_and}
-use Rattle.hv_text.specs.declared.stage.Stage.{Stage}
+use Rattle.hv_kinds.specs.declared.stage.Stage.{Stage}
 use Rattle.hv_data.specs.Data.{Number8, Name, At, HaveData}
 use Rattle.hv_data.proofs.Composed.{because_more}
 use Rattle.hv_data.proofs.DataLemmas.{behind}

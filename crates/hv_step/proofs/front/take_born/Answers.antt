@@ -1,6 +1,6 @@
 use Rattle.std.proofs.Common.{ℕ, List, ◌∷◌, [], Some}
 use Rattle.std.proofs.lemmas.Result.{err_from_is_err_and}
-use Rattle.hv_data.specs.declared.generation.Generation.{Generation}
+use Rattle.hv_kinds.specs.declared.generation.Generation.{Generation}
 use Rattle.hv_data.specs.Data.{Born, HaveData}
 use Rattle.hv_data.proofs.Composed.{because_more}
 use Rattle.hv_step.proofs.front.take_born.Goals as goal

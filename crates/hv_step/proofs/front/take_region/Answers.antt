@@ -1,7 +1,7 @@
 use Rattle.std.proofs.Common.{ℕ, List, ◌∷◌, []}
 use Rattle.std.specs.Prelude.{Option}
 use Rattle.std.proofs.lemmas.Result.{err_from_is_err_and}
-use Rattle.hv_data.specs.declared.generation.Generation.{Generation}
+use Rattle.hv_kinds.specs.declared.generation.Generation.{Generation}
 use Rattle.hv_data.specs.Data.{Name, Born, HaveData}
 use Rattle.hv_data.proofs.Composed.{because_more}
 use Rattle.hv_data.proofs.DataLemmas.{behind}

@@ -1,8 +1,8 @@
 use Rattle.std.proofs.Common.{ℕ, List, ◌∷◌, []}
 use Rattle.std.specs.Prelude.{Option}
 use Rattle.std.proofs.lemmas.Result.{err_from_is_err_and}
-use Rattle.hv_text.specs.declared.stage.Stage.{Stage}
-use Rattle.hv_data.specs.declared.generation.Generation.{Generation}
+use Rattle.hv_kinds.specs.declared.stage.Stage.{Stage}
+use Rattle.hv_kinds.specs.declared.generation.Generation.{Generation}
 use Rattle.hv_data.specs.Data.{Name, At, Born, HaveData}
 use Rattle.hv_data.proofs.Composed.{because_more}
 use Rattle.hv_data.proofs.DataLemmas.{behind}

@@ -1,7 +1,7 @@
 -- The limits of a run.
 use Rattle.std.specs.Prelude.{ℕ, List, codes}
-use Rattle.hv_text.specs.declared.limit.LimitName.{LimitName}
-use Rattle.hv_text.specs.declared.limit.LimitName.TheVariants.{Bytes, Files, Depth, Lines, Nest, Areas, Guests}
+use Rattle.hv_kinds.specs.declared.limit.LimitName.{LimitName}
+use Rattle.hv_kinds.specs.declared.limit.LimitName.TheVariants.{Bytes, Files, Depth, Lines, Nest, Areas, Guests}
 
 -- the word for a limit is its name in lower case
 abbrev pub limit_word : LimitName → List ℕ

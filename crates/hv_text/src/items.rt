@@ -1,6 +1,6 @@
 //! Members of a node.
 ghost use Rattle.std.specs.Prelude.{◌≡◌, ◌≢◌, [], ◌∷◌, ◌++◌, ◌↔◌, IsTrue, MatchOption, OnOk, reverse};
-ghost use Rattle.hv_dtree.specs.Lists.{SwapsFirst};
+ghost use Rattle.hv_text.specs.Lists.{SwapsFirst};
 
 use std::alloc::{AllocError, Global};
 use std::marker::Model;

@@ -1,6 +1,6 @@
 //! The limits of a run.
 ghost use Rattle.std.specs.Prelude.{◌≡◌};
-ghost use Rattle.hv_text.specs.Limit.{limit_word};
+ghost use Rattle.hv_kinds.specs.Limit.{limit_word};
 
 /// What a run can have too much of.
 #[derive(Clone, Copy, Debug, PartialEq, Eq)]
