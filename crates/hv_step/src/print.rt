@@ -33,7 +33,7 @@ fn push_region(
     to: &mut Bytes,
     name: &Bytes,
     region: &Bytes,
-    stage: hv_text::Stage,
+    stage: hv_kinds::Stage,
     generation: Option<Generation>,
 ) -> Result<(), AllocError>
     ensures { OnOk result (to.new ≡ to.old ++ spaced (data_words

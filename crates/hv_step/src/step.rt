@@ -76,9 +76,9 @@ pub struct Name {
 #[derive(Debug, Drop)]
 pub struct Stage {
     pub name: Bytes,
-    pub from: hv_text::Stage,
+    pub from: hv_kinds::Stage,
     /// None where the slot becomes free.
-    pub to: Option<hv_text::Stage>,
+    pub to: Option<hv_kinds::Stage>,
 }
 
 /// Adds a region to a guest in a stage.
@@ -86,7 +86,7 @@ pub struct Stage {
 pub struct Add {
     pub name: Bytes,
     pub region: Bytes,
-    pub stage: hv_text::Stage,
+    pub stage: hv_kinds::Stage,
     /// None where the directory refused; so below.
     pub generation: Option<Generation>,
 }
@@ -96,7 +96,7 @@ pub struct Add {
 pub struct Drop {
     pub name: Bytes,
     pub region: Bytes,
-    pub stage: hv_text::Stage,
+    pub stage: hv_kinds::Stage,
     pub generation: Option<Generation>,
 }
 
