@@ -11,25 +11,10 @@ use Rattle.std.proofs.lemmas.List.Concat.{flat_map-append}
 use Rattle.std.proofs.lemmas.Str.{digit_value-digit_char}
 use Rattle.hv_text.specs.Front.{IsFree}
 use Rattle.hv_text.specs.Number.{padded_hex}
+use Rattle.hv_text.proofs.Pairs.{pair_is}
 use Rattle.hv_data.specs.Text.{hex_pairs, hex_text}
 use Rattle.hv_data.specs.Written.{AreBytes}
 use Rattle.hv_data.proofs.Foreign.{IsForeign, free_append, apart, hex_digit_is_name}
-
-padded : List ℕ → List ℕ
-padded ds = replicate (2 - length ds) 48 ++ ds
-
--- a byte is written as the digits of its high and its low half
-pub pair_is : (b : ℕ) → b < 2 ^ 8 → padded_hex b 2 ≡ digit_char (b / 16) ∷ digit_char (b % 16) ∷ []
-pair_is b lt = elim (cases_lt b 16) [
-  | inl low ↦
-      let high : b / 16 ≡ 0 = omega arith in
-      let rest : b % 16 ≡ b = omega arith in
-      let one : digits 16 false b ≡ digit_char b ∷ [] = hex_one_digit false b low in
-      rw (one, high, rest) refl
-  | inr high ↦
-      let two : digits 16 false b ≡ digit_char (b / 16) ∷ digit_char (b % 16) ∷ [] = hex_two_digits false b high lt in
-      rw two refl
-]
 
 pub same_digit : (v w : ℕ) → v < 16 → w < 16 → digit_char v ≡ digit_char w → v ≡ w
 same_digit v w lt lt' e =

@@ -7,7 +7,7 @@ ghost use Rattle.hv_data.specs.Text.{address_type_text, state_text, state_name_t
 use hv_kinds::{
     AccessKind, AddressType, Direction, Generation, SignalChanges, Stage, State, StateName,
 };
-use hv_text::{Bytes, Path, Strings, push_hex};
+use hv_text::{Bytes, Path, Strings, hex_pair};
 use std::alloc::{AllocError, Global};
 
 /// Appends an address, a machine word or a register's value. At `Err` nothing has changed.
@@ -19,11 +19,11 @@ pub fn push_address(alloc: Global, to: &mut Bytes, value: u64) -> Result<(), All
     to.append(text.as_bytes())
 }
 
-fn push_pairs(alloc: Global, to: &mut Bytes, bytes: &[u8]) -> Result<(), AllocError>
+fn push_pairs(to: &mut Bytes, bytes: &[u8]) -> Result<(), AllocError>
     ensures { OnOk result (to.new ≡ to.old ++ hex_pairs bytes.now) }
 {
     for byte in bytes {
-        push_hex(alloc, to, *byte as u64, 2)?;
+        to.append(&hex_pair(*byte))?;
     }
     Ok(())
 }
@@ -38,7 +38,7 @@ pub fn push_bytes(alloc: Global, to: &mut Bytes, bytes: &Bytes) -> Result<(), Al
         return to.append(b"-");
     }
     let mut pairs = Bytes::from_vec(Vec::new(alloc));
-    push_pairs(alloc, &mut pairs, bytes)?;
+    push_pairs(&mut pairs, bytes)?;
     to.append(pairs.as_slice())
 }
 

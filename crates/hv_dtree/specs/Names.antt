@@ -17,7 +17,7 @@ pub record IsPropName (name : List ℕ) : Type 0 where
   pub short : length name < 32
   pub each : All IsPropByte name
 
--- nothing, or an at sign and one or more bytes of a node's name
+-- an at sign and one or more bytes of a node's name
 pub record IsUnitAddress (text : List ℕ) : Type 0 where
   pub unit : List ℕ
   pub some : 0 < length unit

@@ -50,8 +50,12 @@ pub record IsLeastFree (used : List ℕ) (from number : ℕ) : Type 0 where
 -- of nodes in order the needy ones get the least numbers that are free from one on
 pub data AreGiven (asked : List (List ℕ)) (used : List ℕ) : ℕ → List Site → List (Option ℕ) → Type 0 where
   no_nodes : {from : ℕ} → AreGiven asked used from [] []
-  gets_number : {from : ℕ} {sites : List Site} {given : List (Option ℕ)} (site : Site) (number : ℕ) → is_needy asked site ≡ true → IsLeastFree used from number → AreGiven asked used (number + 1) sites given → AreGiven asked used from (site ∷ sites) (Some number ∷ given)
-  gets_none : {from : ℕ} {sites : List Site} {given : List (Option ℕ)} (site : Site) → is_needy asked site ≡ false → AreGiven asked used from sites given → AreGiven asked used from (site ∷ sites) (None ∷ given)
+  gets_number : {from : ℕ} {sites : List Site} {given : List (Option ℕ)} (site : Site) (number : ℕ)
+      → is_needy asked site ≡ true → IsLeastFree used from number → AreGiven asked used (number + 1) sites given
+      → AreGiven asked used from (site ∷ sites) (Some number ∷ given)
+  gets_none : {from : ℕ} {sites : List Site} {given : List (Option ℕ)} (site : Site)
+      → is_needy asked site ≡ false → AreGiven asked used from sites given
+      → AreGiven asked used from (site ∷ sites) (None ∷ given)
 
 -- whether a node has a label
 abbrev pub has_label : List ℕ → Site → Bool

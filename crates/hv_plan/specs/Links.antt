@@ -19,7 +19,9 @@ interrupts node = is_device node && has node (codes "interrupts")
 -- the phandle of a region's parent: its own property, or else that of the address space, where it is one cell
 abbrev pub parent_phandle : Option Node → Node → Option ℕ
 parent_phandle aspace node =
-    option_and_then cell_in (option_or (prop_value node (codes "interrupt-parent")) (option_and_then (λ above. prop_value above (codes "interrupt-parent")) aspace))
+    let own = prop_value node (codes "interrupt-parent") in
+    let of_aspace = option_and_then (λ above. prop_value above (codes "interrupt-parent")) aspace in
+    option_and_then cell_in (option_or own of_aspace)
 
 -- whether a region has a phandle
 abbrev pub has_phandle : ℕ → Node → Bool
@@ -28,9 +30,8 @@ has_phandle phandle region = option_map_or (λ own. own == phandle) (cell_of reg
 -- the row of the region that takes a device's interrupts, and the source there, where both are known
 abbrev pub link_of : Option Node → List Node → Node → Option (ℕ × ℕ)
 link_of aspace regions node =
-    if interrupts node
-    then option_and_then (λ phandle. option_and_then (λ row. option_map (λ source. (row, source)) (source_of node)) (position_from (has_phandle phandle) 0 regions)) (parent_phandle aspace node)
-    else None
+    let row = option_and_then (λ phandle. position_from (has_phandle phandle) 0 regions) (parent_phandle aspace node) in
+    if interrupts node then option_and_then (λ r. option_map (λ source. (r, source)) (source_of node)) row else None
 
 -- the link leads to another region
 abbrev pub leads_from : ℕ → Option (ℕ × ℕ) → Bool

@@ -30,20 +30,23 @@ type_of node =
     if says node (codes "address_type") (codes "memory") then Some Memory
     else (if says node (codes "address_type") (codes "io") then Some Io else None)
 
--- where a region begins, and how many bytes it has
+-- where a region begins
 abbrev pub base_of : Node → Option ℕ
 base_of node = number_of node (codes "guest_physical_addr")
 
+-- how many bytes a region has
 abbrev pub size_of : Node → Option ℕ
 size_of node = number_of node (codes "physical_size")
 
--- the place of the area that a region shows, and where in it the region begins
+-- an area, as its name and its size, has this name
 abbrev pub is_named : List ℕ → List ℕ × ℕ → Bool
 is_named name area = pointwise nat_eq area.0 name
 
+-- the place of the area that a region shows
 abbrev pub area_of : List (List ℕ × ℕ) → Node → Option ℕ
 area_of areas node = option_and_then (λ name. position_from (is_named name) 0 areas) (text_of node (codes "host_area"))
 
+-- that place, where there is one
 abbrev pub area_row : List (List ℕ × ℕ) → Node → ℕ
 area_row areas node = unwrap_or (area_of areas node) 0
 
@@ -51,6 +54,7 @@ area_row areas node = unwrap_or (area_of areas node) 0
 abbrev pub area_len : List (List ℕ × ℕ) → Node → Option ℕ
 area_len areas node = option_and_then (λ area. option_map (λ it. it.1) (slice_get areas area)) (area_of areas node)
 
+-- where in its area a region begins
 abbrev pub offset_of : Node → Option ℕ
 offset_of node = number_or 0 node (codes "area_offset")
 

@@ -3,8 +3,9 @@ use Rattle.std.specs.Prelude.{◌≡◌, ℕ, ◌<◌, ◌≤◌, ◌==◌, List
 use Rattle.std.specs.List.{after_first}
 use Rattle.std.specs.Str.Lines.{lines}
 
--- the pieces that end at line feeds, each without one carriage return directly before its line feed,
--- and as it is the last piece, which no line feed ends, unless it is empty
+-- The lines of a script: a text is cut behind each line feed. Of each piece the line feed and one carriage return
+-- before it are left out. What stands behind the last line feed is a line too, and keeps its carriage return, unless it
+-- is empty.
 abbrev pub script_lines : List ℕ → List (List ℕ)
 script_lines text = lines text
 

@@ -1,6 +1,5 @@
 //! Commands printed as lines.
-ghost use Rattle.std.specs.Prelude.{◌≡◌, ◌++◌, ◌<◌, List, ℕ, OnOk, IfOk};
-ghost use Rattle.std.specs.Char.{digit_char};
+ghost use Rattle.std.specs.Prelude.{◌≡◌, ◌++◌, List, ℕ, OnOk, IfOk};
 ghost use Rattle.std.specs.Fmt.{decimal};
 ghost use Rattle.std.specs.List.{flat_map};
 ghost use Rattle.hv_text.specs.Path.{path_text};
@@ -8,19 +7,8 @@ ghost use Rattle.hv_words.specs.Commands.{Gives};
 ghost use Rattle.hv_words.specs.Print.{byte_text, command_text};
 
 use crate::command::Command;
-use hv_text::{Bytes, Path, push_decimal};
+use hv_text::{Bytes, Path, hex_digit, push_decimal};
 use std::alloc::{AllocError, Global};
-
-fn digit(value: u8) -> u8
-    requires { value < 16 }
-    ensures { result ≡ digit_char value }
-{
-    if value < 10 {
-        b'0' + value
-    } else {
-        b'a' - 10 + value
-    }
-}
 
 fn push_byte(to: &mut Bytes, byte: u8) -> Result<(), AllocError>
     ensures { OnOk result (to.new ≡ to.old ++ byte_text byte) }
@@ -37,7 +25,7 @@ fn push_byte(to: &mut Bytes, byte: u8) -> Result<(), AllocError>
     if byte.is_ascii_graphic() {
         return to.append(&[byte]);
     }
-    to.append(&[b'\\', b'x', digit(byte / 16), digit(byte % 16)])
+    to.append(&[b'\\', b'x', hex_digit(byte / 16), hex_digit(byte % 16)])
 }
 
 fn push_text(to: &mut Bytes, bytes: &[u8]) -> Result<(), AllocError>
