@@ -1,44 +1,19 @@
 //! Lists printed and read.
 use super::*;
 use hv_data::WordRefusal;
-use hv_kinds::{AddressType, Stage};
 use hv_text::Bytes;
 use std::alloc::Global;
 use std::test::Fail;
 
-const GUESTS: &[&[u8]] = &[
-    b"-",
-    b"g0:0:Making",
-    b"a,b:3:Made,-:7:Ending",
-    b"-,g0:0:Made",
-];
+const GUESTS: &[&[u8]] = &[b"-", b"a,b:3:Made,-:7:Ending"];
 
-const NO_GUESTS: &[&[u8]] = &[
-    b"",
-    b"g0",
-    b"g0:0",
-    b"g0:0:Free",
-    b"g0:00:Made",
-    b"g0:256:Made",
-    b":0:Made",
-    b"g0:0:Made,",
-    b"g0:0:Made,-",
-    b"g:0:0:Made",
-];
+const NO_GUESTS: &[&[u8]] = &[b"g0:0:Free", b"g0:0:Made,-", b"g:0:0:Made"];
 
-const WINDOWS: &[&[u8]] = &[
-    b"-",
-    b"0:0:memory:0x80000000:0x10000:0x0",
-    b"0:0:memory:0x0:0x1:0x0,3:0:io:0x10000000:0x100:0x40",
-];
+const WINDOWS: &[&[u8]] = &[b"-", b"0:0:memory:0x0:0x1:0x0,3:0:io:0x10000000:0x100:0x40"];
 
 const NO_WINDOWS: &[&[u8]] = &[
-    b"",
     b"0:0:memory:0x0:0x1",
-    b"0:0:rom:0x0:0x1:0x0",
     b"0:0:memory:0x00:0x1:0x0",
-    b"0:0:memory:0:0x1:0x0",
-    b"0:0:memory:0x0:0x1:0x0:0x0",
     b"0:0:memory:0x0:0x1:0x0,",
 ];
 
@@ -87,40 +62,5 @@ fn reads_windows_as_they_are_printed(rt: HostRuntime) -> Result<(), Fail> {
     }
     lists_are_unambiguous();
     lists_have_no_space();
-    Ok(())
-}
-
-#[test]
-fn prints_an_alias_behind_its_owner(rt: HostRuntime) -> Result<(), Fail> {
-    let mut items = Vec::new(rt.alloc());
-    items.push(ListedWindow {
-        owner: 1,
-        target: 0,
-        address_type: AddressType::Io,
-        base: 0x100,
-        size: 16,
-        offset: 0,
-    })?;
-    let windows = WindowList::from_vec(items);
-    assert_eq!(rt; windows.as_slice().len(), 1);
-    let mut printed = Bytes::from_vec(Vec::new(rt.alloc()));
-    print_windows(rt.alloc(), &mut printed, &windows)?;
-    assert_eq!(rt; printed.as_slice(), b"1:0:io:0x100:0x10:0x0".as_slice());
-    Ok(())
-}
-
-#[test]
-fn prints_a_guest_with_its_slot(rt: HostRuntime) -> Result<(), Fail> {
-    let mut items = Vec::new(rt.alloc());
-    items.push(ListedGuest {
-        name: Bytes::from_vec(Vec::from_slice(rt.alloc(), b"g0")?),
-        slot: 2,
-        stage: Stage::Made,
-    })?;
-    let guests = GuestList::from_vec(items);
-    assert_eq!(rt; guests.as_slice().len(), 1);
-    let mut printed = Bytes::from_vec(Vec::new(rt.alloc()));
-    print_guests(rt.alloc(), &mut printed, &guests)?;
-    assert_eq!(rt; printed.as_slice(), b"g0:2:Made".as_slice());
     Ok(())
 }
