@@ -1,4 +1,4 @@
-//! Steps at the last stamp.
+//! A step at the last stamp.
 use crate::files::FileCell;
 use crate::scripts::OpenScripts;
 use crate::stop::Stop;
@@ -6,20 +6,15 @@ use crate::terminal::{LAST_STAMP, Terminal};
 use crate::turn::take_step;
 use hv_files::FileTree;
 use hv_text::Bytes;
-use std::alloc::{AllocError, Global};
 use std::test::Fail;
-
-fn no_files(alloc: Global) -> Result<FileCell, AllocError> {
-    Ok(FileCell {
-        tree: FileTree::new(alloc)?,
-        stamp: 0,
-    })
-}
 
 #[test]
 fn makes_no_event_past_the_last_stamp(rt: HostRuntime) -> Result<(), Fail> {
     let alloc = rt.alloc();
-    let mut files = no_files(alloc)?;
+    let mut files = FileCell {
+        tree: FileTree::new(alloc)?,
+        stamp: 0,
+    };
     let mut terminal = Terminal {
         number: 1,
         count: 7,
@@ -33,25 +28,5 @@ fn makes_no_event_past_the_last_stamp(rt: HostRuntime) -> Result<(), Fail> {
     let made = take_step(alloc, &mut files, &mut terminal);
     assert!(rt; matches!(made, Err(Stop::Spent(LAST_STAMP))));
     assert_eq!(rt; terminal.count, 7);
-    Ok(())
-}
-
-#[test]
-fn makes_an_event_of_the_last_stamp(rt: HostRuntime) -> Result<(), Fail> {
-    let alloc = rt.alloc();
-    let mut files = no_files(alloc)?;
-    let mut terminal = Terminal {
-        number: 1,
-        count: 7,
-        stamp: LAST_STAMP - 1,
-        rests: 2,
-        boot: OpenScripts::new(alloc),
-        own: OpenScripts::new(alloc),
-        lines: 1,
-        shown: Bytes::from_vec(Vec::new(alloc)),
-    };
-    let made = take_step(alloc, &mut files, &mut terminal);
-    assert!(rt; made.is_ok());
-    assert_eq!(rt; terminal.stamp, LAST_STAMP);
     Ok(())
 }
