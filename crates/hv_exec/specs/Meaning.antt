@@ -1,4 +1,7 @@
 -- What an instruction does to a context, by the RISC-V unprivileged manual.
+-- `exec` tests no alignment of a load or a store: it answers the access for each address. Alignment is tested where a
+-- whole instruction is carried out, and a misaligned access traps there, with LOAD_ADDRESS_MISALIGNED (4) or
+-- STORE_ADDRESS_MISALIGNED (6).
 use Rattle.std.specs.Prelude.{◌≡◌, ⊤, ℕ, ◌-◌, ◌*◌, ◌%◌, ◌^◌, ◌<◌, ℤ, pos, ◌+ℤ◌, Bool, not, ◌==◌, nat_lt, if◌then◌else◌, bit_and}
 use Rattle.hv_exec.specs.Arithmetic.{is_less}
 use Rattle.hv_exec.specs.Context.{register_of, with_register, at, advanced, next_pc}
@@ -6,6 +9,7 @@ use Rattle.hv_kinds.specs.Pins.{pending_bits}
 use Rattle.hv_exec.specs.Numbers.{modulo, sign_extended}
 use Rattle.hv_exec.specs.Operation.{operation_of, IsSize}
 use Rattle.hv_exec.specs.Result.{result_of}
+use Rattle.hv_exec.specs.declared.causes.TheConstants.{INSTRUCTION_ADDRESS_MISALIGNED}
 use Rattle.hv_exec.specs.declared.context.After.{After}
 use Rattle.hv_exec.specs.declared.context.After.TheVariants.{Done, Load, Store, Trap, Wait, System}
 use Rattle.hv_exec.specs.declared.context.Ctx.{Ctx}
@@ -58,7 +62,9 @@ computed ctx rd value = done (advanced (with_register ctx rd value))
 
 -- control goes to a target, or traps where it is no multiple of 4
 abbrev pub landed : Ctx → ℕ → Ctx → Outcome
-landed ctx target after = if target % 4 == 0 then done (at after target) else stays ctx (Trap 0 target)
+landed ctx target after =
+    if target % 4 == 0 then done (at after target)
+    else stays ctx (Trap INSTRUCTION_ADDRESS_MISALIGNED target)
 
 -- a jump leaves the address behind it in a register
 abbrev pub jumped : Ctx → ℕ → ℕ → Outcome

@@ -1,5 +1,6 @@
 -- The work that each instruction asks of the hart.
-use Rattle.std.specs.Prelude.{◌≡◌, ◌⊎◌, ℕ, ◌^◌, ◌<◌, ℤ, true, false, ⊤}
+use Rattle.std.specs.Prelude.{◌≡◌, ◌⊎◌, ℕ, ℤ, true, false}
+use Rattle.hv_exec.specs.declared.causes.TheConstants.{BREAKPOINT, ENVIRONMENT_CALL_FROM_M_MODE}
 use Rattle.hv_exec.specs.declared.inst.Inst.{Inst}
 use Rattle.hv_exec.specs.declared.inst.Inst.TheVariants.{Lui, Auipc, Jal, Jalr, Beq, Bne, Blt, Bge, Bltu, Bgeu, Lb, Lh, Lw, Ld, Lbu, Lhu, Lwu, Sb, Sh, Sw, Sd, Addi, Slti, Sltiu, Xori, Ori, Andi, Addiw, Slli, Srli, Srai, Slliw, Srliw, Sraiw, Add, Sub, Sll, Slt, Sltu, Xor, Srl, Sra, Or, And, Mul, Mulh, Mulhsu, Mulhu, Div, Divu, Rem, Remu, Addw, Subw, Sllw, Srlw, Sraw, Mulw, Divw, Divuw, Remw, Remuw, Fence, FenceI, Ecall, Ebreak, Mret, Wfi, Csrrw, Csrrs, Csrrc, Csrrwi, Csrrsi, Csrrci}
 use Rattle.hv_exec.specs.declared.operation.Alu.{Alu}
@@ -92,8 +93,8 @@ operation_of (Remw rd rs1 rs2) = on_registers alu.RemainWord rd rs1 rs2
 operation_of (Remuw rd rs1 rs2) = on_registers alu.RemainUnsignedWord rd rs1 rs2
 operation_of (Fence rd rs1 fields) = Skip
 operation_of (FenceI rd rs1 fields) = Skip
-operation_of Ecall = Raise 11
-operation_of Ebreak = Raise 3
+operation_of Ecall = Raise ENVIRONMENT_CALL_FROM_M_MODE
+operation_of Ebreak = Raise BREAKPOINT
 operation_of Mret = Privileged
 operation_of Wfi = Sleep
 operation_of (Csrrw rd rs1 csr) = Privileged
@@ -107,28 +108,6 @@ operation_of (Csrrci rd imm csr) = Privileged
 abbrev pub IsPrivileged : Inst → Type 0
 IsPrivileged inst = operation_of inst ≡ Privileged
 
--- the register of an operand exists, and an upper immediate has 20 bits
-abbrev pub IsOperand : Operand → Type 0
-IsOperand (Register number) = number < 32
-IsOperand (Immediate imm) = ⊤
-IsOperand (Amount amount) = ⊤
-IsOperand (Upper imm) = imm < 2 ^ 20
-IsOperand Pc = ⊤
-IsOperand Zero = ⊤
-
 -- 1, 2, 4 or 8 bytes
 abbrev pub IsSize : ℕ → Type 0
 IsSize size = (size ≡ 1) ⊎ ((size ≡ 2) ⊎ ((size ≡ 4) ⊎ (size ≡ 8)))
-
--- each register that the work names exists, and each access has a size
-abbrev pub IsOperation : Operation → Type 0
-IsOperation (Compute rd how left right) = (rd < 32) × IsOperand left × IsOperand right
-IsOperation (Jump rd offset) = rd < 32
-IsOperation (JumpRegister rd rs1 imm) = (rd < 32) × (rs1 < 32)
-IsOperation (Branch when rs1 rs2 offset) = (rs1 < 32) × (rs2 < 32)
-IsOperation (Read size is_signed rd rs1 imm) = IsSize size × (rd < 32) × (rs1 < 32)
-IsOperation (Write size rs1 rs2 imm) = IsSize size × (rs1 < 32) × (rs2 < 32)
-IsOperation Skip = ⊤
-IsOperation (Raise cause) = ⊤
-IsOperation Sleep = ⊤
-IsOperation Privileged = ⊤

@@ -26,14 +26,15 @@ pub struct Ctx {
 #[derive(Clone, Copy, Debug, PartialEq, Eq, Drop)]
 pub enum After {
     Done,
-    /// Load `size` bytes from `addr`, then call `finish_load`.
+    /// Load `size` bytes from `addr`, which may be misaligned, then call `finish_load`.
     Load {
         addr: u64,
         size: u8,
         signed: bool,
         rd: u8,
     },
-    /// Store the lowest `size` bytes of `value` at `addr`, then call `finish_store`.
+    /// Store the lowest `size` bytes of `value` at `addr`, which may be misaligned, then call
+    /// `finish_store`.
     Store {
         addr: u64,
         size: u8,

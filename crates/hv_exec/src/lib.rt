@@ -2,6 +2,7 @@
 #![tactic(auto)]
 
 mod alu;
+pub mod causes;
 mod context;
 mod inst;
 mod multiply;

@@ -2,8 +2,10 @@
 
 ghost use Rattle.std.specs.Prelude.{◌≡◌, ℕ, ◌+◌, ◌-◌, ◌*◌, ◌/◌, ◌%◌, ◌^◌, ◌<◌, ◌≤◌, true, false};
 ghost use Rattle.hv_exec.specs.Fields.{IsWellFormed};
-ghost use Rattle.hv_exec.specs.Operation.{on_registers, on_immediate, on_amount, on_upper, operation_of, IsOperation};
+ghost use Rattle.hv_exec.specs.Operation.{on_registers, on_immediate, on_amount, on_upper, operation_of};
+ghost use Rattle.hv_exec.specs.OperationFields.{IsOperation};
 
+use crate::causes::{BREAKPOINT, ENVIRONMENT_CALL_FROM_M_MODE};
 use crate::inst::Inst;
 
 /// How a result comes from two words. The names that end in `Word` are of the lowest 32 bits.
@@ -256,8 +258,10 @@ pub fn operation_of(inst: Inst) -> Operation
         Inst::Remw { rd, rs1, rs2 } => registers(Alu::RemainWord, rd, rs1, rs2),
         Inst::Remuw { rd, rs1, rs2 } => registers(Alu::RemainUnsignedWord, rd, rs1, rs2),
         Inst::Fence { .. } | Inst::FenceI { .. } => Operation::Skip,
-        Inst::Ecall => Operation::Raise { cause: 11 },
-        Inst::Ebreak => Operation::Raise { cause: 3 },
+        Inst::Ecall => Operation::Raise {
+            cause: ENVIRONMENT_CALL_FROM_M_MODE,
+        },
+        Inst::Ebreak => Operation::Raise { cause: BREAKPOINT },
         Inst::Wfi => Operation::Sleep,
         Inst::Mret
         | Inst::Csrrw { .. }

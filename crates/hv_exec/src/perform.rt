@@ -4,8 +4,10 @@ ghost use Rattle.std.specs.Prelude.{◌≡◌, ◌↔◌, ◌⊎◌, ℕ, ◌+�
 ghost use Rattle.hv_exec.specs.Context.{advanced};
 ghost use Rattle.hv_exec.specs.Fields.{IsWellFormed};
 ghost use Rattle.hv_exec.specs.Meaning.{IsAnswered, computed, jumped, branched, slept, effect, meaning, offset_from, value_of, holds, extended, after_load, even};
-ghost use Rattle.hv_exec.specs.Operation.{IsOperation, IsOperand, IsPrivileged, IsSize};
+ghost use Rattle.hv_exec.specs.Operation.{IsPrivileged, IsSize};
+ghost use Rattle.hv_exec.specs.OperationFields.{IsOperand, IsOperation};
 
+use crate::causes::INSTRUCTION_ADDRESS_MISALIGNED;
 use crate::context::{After, Ctx};
 use crate::inst::Inst;
 use crate::operation::{Condition, Operand, Operation, operation_of};
@@ -13,6 +15,7 @@ use crate::result::result_of;
 use crate::{alu, word};
 
 /// Carries out an instruction, save the access of a load or a store and what `system` does.
+/// It answers an access for each address: alignment is tested where the access is carried out.
 #[tactic(auto, unfolding(crate::specs::Meaning::meaning))]
 pub fn exec(ctx: &mut Ctx, inst: Inst) -> After
     requires { IsWellFormed inst }
@@ -170,7 +173,7 @@ fn jump(ctx: &mut Ctx, rd: u8, target: u64) -> After
     let next = ctx.pc.wrapping_add(4);
     if target % 4 != 0 {
         return After::Trap {
-            cause: 0,
+            cause: INSTRUCTION_ADDRESS_MISALIGNED,
             value: target,
         };
     }
@@ -190,7 +193,7 @@ fn branch(ctx: &mut Ctx, taken: bool, offset: i32) -> After
     let target = offset_from(ctx.pc, offset);
     if target % 4 != 0 {
         return After::Trap {
-            cause: 0,
+            cause: INSTRUCTION_ADDRESS_MISALIGNED,
             value: target,
         };
     }
