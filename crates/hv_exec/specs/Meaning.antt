@@ -119,4 +119,5 @@ extended size is_signed bytes = if is_signed then sign_extended (8 * size) bytes
 
 -- the context once a load has its value
 unfoldable pub after_load : Ctx → ℕ → Bool → ℕ → ℕ → Ctx
-after_load ctx size is_signed rd value = advanced (with_register ctx rd (extended size is_signed (value % 2 ^ (8 * size))))
+after_load ctx size is_signed rd value =
+    advanced (with_register ctx rd (extended size is_signed (value % 2 ^ (8 * size))))
