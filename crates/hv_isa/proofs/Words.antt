@@ -1,11 +1,12 @@
 -- Each word that is read as an instruction is the word that the instruction's fields add up to, so it is the only one.
 -- Below, o, f and g are values of opcode, funct3 and funct7 (or funct6), and d, s and t those of rd, rs1 and rs2.
-use Rattle.std.proofs.Common.{◌≡◌, ℕ, ◌+◌, ◌*◌, ◌/◌, ◌%◌, ◌^◌, ◌<◌, ℤ, Bool, true, false, List, [], ◌∷◌, Option, Some, refl, subst, arith, sym, ap, ◌∙◌, nat_eq}
+use Rattle.std.proofs.Common.{◌≡◌, ℕ, ◌+◌, ◌*◌, ◌%◌, ◌^◌, ◌<◌, Bool, true, false, List, [], ◌∷◌, Option, Some, refl, subst, arith, sym, ap, ◌∙◌, nat_eq}
 use Rattle.std.specs.Prelude.{if◌then◌else◌}
 use Rattle.std.proofs.lemmas.Bool.Decides.{nat_tests}
 use Rattle.hv_exec.specs.Numbers.{modulo, signed}
 use Rattle.hv_exec.specs.declared.inst.Inst.{Inst}
-use Rattle.hv_exec.specs.declared.inst.Inst.TheVariants.{Lui, Auipc, Jal, Jalr, Beq, Bne, Blt, Bge, Bltu, Bgeu, Lb, Lh, Lw, Ld, Lbu, Lhu, Lwu, Sb, Sh, Sw, Sd, Addi, Slti, Sltiu, Xori, Ori, Andi, Addiw, Slli, Srli, Srai, Slliw, Srliw, Sraiw, Add, Sll, Slt, Sltu, Xor, Srl, Or, And, Sub, Sra, Mul, Mulh, Mulhsu, Mulhu, Div, Divu, Rem, Remu, Addw, Sllw, Srlw, Subw, Sraw, Mulw, Divw, Divuw, Remw, Remuw, Fence, FenceI, Ecall, Ebreak, Mret, Wfi, Csrrw, Csrrs, Csrrc, Csrrwi, Csrrsi, Csrrci}
+use Rattle.hv_isa.specs.declared.functs.TheConstants.{ADD, ALTERNATE, AND, ARITHMETIC, BASE, BEQ, BGE, BGEU, BLT, BLTU, BNE, CSRRC, CSRRCI, CSRRS, CSRRSI, CSRRW, CSRRWI, DIV, DIVU, FENCE, FENCE_I, JALR_FUNCT3, LB, LBU, LD, LH, LHU, LOGICAL, LW, LWU, MUL, MULDIV, MULH, MULHSU, MULHU, OR, REM, REMU, SB, SD, SH, SLL, SLT, SLTU, SRA, SRL, SUB, SW, XOR}
+use Rattle.hv_isa.specs.declared.opcodes.TheConstants.{AUIPC, BRANCH, EBREAK, ECALL, JAL, JALR, LOAD, LUI, MISC_MEM, MRET, OP, OP_32, OP_IMM, OP_IMM_32, STORE, SYSTEM, WFI}
 use Rattle.hv_isa.specs.Encoding.{r_form, long_form, field_form, i_form, u_form, s_sum, s_form, b_sum, b_form, j_sum, j_form, encoded}
 use Rattle.hv_isa.specs.Formats.{bits, rd, rs1, rs2, i_immediate, s_immediate, b_immediate, j_immediate}
 use Rattle.hv_isa.specs.Table.{Fixed, Row, Group, funct3, funct6, funct7, whole, groups, fits, by_rows, rows_of, decoded, lui_rows, auipc_rows, jal_rows, jalr_rows, branch_rows, load_rows, store_rows, immediate_rows, immediate_word_rows, register_rows, register_word_rows, fence_rows, system_rows}
@@ -149,69 +150,69 @@ rows_of-inverts (g ∷ gs) all w below i h =
     picked g (rows_of (w % 2 ^ 7) gs) w i all.0 below (rows_of-inverts gs all.1 w below i) (nat_eq (w % 2 ^ 7) g.opcode) refl h
 
 -- each word of lui_rows is what its fields add up to
-lui_rows-invert : AllInvert 0x37 lui_rows
+lui_rows-invert : AllInvert LUI lui_rows
 lui_rows-invert =
-    (u_inverts 0x37, tt)
+    (u_inverts LUI, tt)
 
 -- each word of auipc_rows is what its fields add up to
-auipc_rows-invert : AllInvert 0x17 auipc_rows
+auipc_rows-invert : AllInvert AUIPC auipc_rows
 auipc_rows-invert =
-    (u_inverts 0x17, tt)
+    (u_inverts AUIPC, tt)
 
 -- each word of jal_rows is what its fields add up to
-jal_rows-invert : AllInvert 0x6f jal_rows
+jal_rows-invert : AllInvert JAL jal_rows
 jal_rows-invert =
-    (j_inverts 0x6f, tt)
+    (j_inverts JAL, tt)
 
 -- each word of jalr_rows is what its fields add up to
-jalr_rows-invert : AllInvert 0x67 jalr_rows
+jalr_rows-invert : AllInvert JALR jalr_rows
 jalr_rows-invert =
-    (i_inverts 0x67 0, tt)
+    (i_inverts JALR JALR_FUNCT3, tt)
 
 -- each word of branch_rows is what its fields add up to
-branch_rows-invert : AllInvert 0x63 branch_rows
+branch_rows-invert : AllInvert BRANCH branch_rows
 branch_rows-invert =
-    (b_inverts 0x63 0, (b_inverts 0x63 1, (b_inverts 0x63 4, (b_inverts 0x63 5, (b_inverts 0x63 6, (b_inverts 0x63 7, tt))))))
+    (b_inverts BRANCH BEQ, (b_inverts BRANCH BNE, (b_inverts BRANCH BLT, (b_inverts BRANCH BGE, (b_inverts BRANCH BLTU, (b_inverts BRANCH BGEU, tt))))))
 
 -- each word of load_rows is what its fields add up to
-load_rows-invert : AllInvert 0x03 load_rows
+load_rows-invert : AllInvert LOAD load_rows
 load_rows-invert =
-    (i_inverts 0x03 0, (i_inverts 0x03 1, (i_inverts 0x03 2, (i_inverts 0x03 3, (i_inverts 0x03 4, (i_inverts 0x03 5, (i_inverts 0x03 6, tt)))))))
+    (i_inverts LOAD LB, (i_inverts LOAD LH, (i_inverts LOAD LW, (i_inverts LOAD LD, (i_inverts LOAD LBU, (i_inverts LOAD LHU, (i_inverts LOAD LWU, tt)))))))
 
 -- each word of store_rows is what its fields add up to
-store_rows-invert : AllInvert 0x23 store_rows
+store_rows-invert : AllInvert STORE store_rows
 store_rows-invert =
-    (s_inverts 0x23 0, (s_inverts 0x23 1, (s_inverts 0x23 2, (s_inverts 0x23 3, tt))))
+    (s_inverts STORE SB, (s_inverts STORE SH, (s_inverts STORE SW, (s_inverts STORE SD, tt))))
 
 -- each word of immediate_rows is what its fields add up to
-immediate_rows-invert : AllInvert 0x13 immediate_rows
+immediate_rows-invert : AllInvert OP_IMM immediate_rows
 immediate_rows-invert =
-    (i_inverts 0x13 0, (i_inverts 0x13 2, (i_inverts 0x13 3, (i_inverts 0x13 4, (i_inverts 0x13 6, (i_inverts 0x13 7, (long_inverts 0x13 1 0, (long_inverts 0x13 5 0, (long_inverts 0x13 5 16, tt)))))))))
+    (i_inverts OP_IMM ADD, (i_inverts OP_IMM SLT, (i_inverts OP_IMM SLTU, (i_inverts OP_IMM XOR, (i_inverts OP_IMM OR, (i_inverts OP_IMM AND, (long_inverts OP_IMM SLL LOGICAL, (long_inverts OP_IMM SRL LOGICAL, (long_inverts OP_IMM SRA ARITHMETIC, tt)))))))))
 
 -- each word of immediate_word_rows is what its fields add up to
-immediate_word_rows-invert : AllInvert 0x1b immediate_word_rows
+immediate_word_rows-invert : AllInvert OP_IMM_32 immediate_word_rows
 immediate_word_rows-invert =
-    (i_inverts 0x1b 0, (short_inverts 0x1b 1 0x0, (short_inverts 0x1b 5 0x0, (short_inverts 0x1b 5 0x20, tt))))
+    (i_inverts OP_IMM_32 ADD, (short_inverts OP_IMM_32 SLL BASE, (short_inverts OP_IMM_32 SRL BASE, (short_inverts OP_IMM_32 SRA ALTERNATE, tt))))
 
 -- each word of register_rows is what its fields add up to
-register_rows-invert : AllInvert 0x33 register_rows
+register_rows-invert : AllInvert OP register_rows
 register_rows-invert =
-    (r_inverts 0x33 0 0x0, (r_inverts 0x33 1 0x0, (r_inverts 0x33 2 0x0, (r_inverts 0x33 3 0x0, (r_inverts 0x33 4 0x0, (r_inverts 0x33 5 0x0, (r_inverts 0x33 6 0x0, (r_inverts 0x33 7 0x0, (r_inverts 0x33 0 0x20, (r_inverts 0x33 5 0x20, (r_inverts 0x33 0 0x1, (r_inverts 0x33 1 0x1, (r_inverts 0x33 2 0x1, (r_inverts 0x33 3 0x1, (r_inverts 0x33 4 0x1, (r_inverts 0x33 5 0x1, (r_inverts 0x33 6 0x1, (r_inverts 0x33 7 0x1, tt))))))))))))))))))
+    (r_inverts OP ADD BASE, (r_inverts OP SLL BASE, (r_inverts OP SLT BASE, (r_inverts OP SLTU BASE, (r_inverts OP XOR BASE, (r_inverts OP SRL BASE, (r_inverts OP OR BASE, (r_inverts OP AND BASE, (r_inverts OP SUB ALTERNATE, (r_inverts OP SRA ALTERNATE, (r_inverts OP MUL MULDIV, (r_inverts OP MULH MULDIV, (r_inverts OP MULHSU MULDIV, (r_inverts OP MULHU MULDIV, (r_inverts OP DIV MULDIV, (r_inverts OP DIVU MULDIV, (r_inverts OP REM MULDIV, (r_inverts OP REMU MULDIV, tt))))))))))))))))))
 
 -- each word of register_word_rows is what its fields add up to
-register_word_rows-invert : AllInvert 0x3b register_word_rows
+register_word_rows-invert : AllInvert OP_32 register_word_rows
 register_word_rows-invert =
-    (r_inverts 0x3b 0 0x0, (r_inverts 0x3b 1 0x0, (r_inverts 0x3b 5 0x0, (r_inverts 0x3b 0 0x20, (r_inverts 0x3b 5 0x20, (r_inverts 0x3b 0 0x1, (r_inverts 0x3b 4 0x1, (r_inverts 0x3b 5 0x1, (r_inverts 0x3b 6 0x1, (r_inverts 0x3b 7 0x1, tt))))))))))
+    (r_inverts OP_32 ADD BASE, (r_inverts OP_32 SLL BASE, (r_inverts OP_32 SRL BASE, (r_inverts OP_32 SUB ALTERNATE, (r_inverts OP_32 SRA ALTERNATE, (r_inverts OP_32 MUL MULDIV, (r_inverts OP_32 DIV MULDIV, (r_inverts OP_32 DIVU MULDIV, (r_inverts OP_32 REM MULDIV, (r_inverts OP_32 REMU MULDIV, tt))))))))))
 
 -- each word of fence_rows is what its fields add up to
-fence_rows-invert : AllInvert 0x0f fence_rows
+fence_rows-invert : AllInvert MISC_MEM fence_rows
 fence_rows-invert =
-    (field_inverts 0x0f 0, (field_inverts 0x0f 1, tt))
+    (field_inverts MISC_MEM FENCE, (field_inverts MISC_MEM FENCE_I, tt))
 
 -- each word of system_rows is what its fields add up to
-system_rows-invert : AllInvert 0x73 system_rows
+system_rows-invert : AllInvert SYSTEM system_rows
 system_rows-invert =
-    (field_inverts 0x73 1, (field_inverts 0x73 2, (field_inverts 0x73 3, (field_inverts 0x73 5, (field_inverts 0x73 6, (field_inverts 0x73 7, (whole_inverts 0x00000073, (whole_inverts 0x00100073, (whole_inverts 0x30200073, (whole_inverts 0x10500073, tt))))))))))
+    (field_inverts SYSTEM CSRRW, (field_inverts SYSTEM CSRRS, (field_inverts SYSTEM CSRRC, (field_inverts SYSTEM CSRRWI, (field_inverts SYSTEM CSRRSI, (field_inverts SYSTEM CSRRCI, (whole_inverts ECALL, (whole_inverts EBREAK, (whole_inverts MRET, (whole_inverts WFI, tt))))))))))
 
 -- so it is for the whole table
 groups-invert : AllGroupsInvert groups

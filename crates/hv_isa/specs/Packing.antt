@@ -1,3 +1,4 @@
+-- Used by proofs and private functions alone.
 -- The fields that a word of each format has.
 use Rattle.std.specs.Prelude.{◌≡◌, ℕ, ◌%◌, ◌^◌, ℤ}
 use Rattle.hv_isa.specs.Formats.{bits, rd, rs1, rs2, i_immediate, s_immediate, b_immediate, j_immediate}

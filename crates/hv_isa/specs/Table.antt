@@ -1,7 +1,10 @@
--- The table of instruction words, by the opcode map and the listings of the RISC-V unprivileged manual.
+-- The table of instruction words, by the opcode map and the listings of the RISC-V Unprivileged ISA, chapter
+-- "RV32/64G Instruction Set Listings". The numbers that its names stand for are in src/opcodes.rt and src/functs.rt.
 use Rattle.std.specs.Prelude.{ℕ, ◌/◌, ◌%◌, ◌^◌, Bool, true, ◌&&◌, ◌==◌, if◌then◌else◌, List, [], ◌∷◌, Option, Some, None}
 use Rattle.hv_exec.specs.declared.inst.Inst.{Inst}
 use Rattle.hv_exec.specs.declared.inst.Inst.TheVariants.{Lui, Auipc, Jal, Jalr, Beq, Bne, Blt, Bge, Bltu, Bgeu, Lb, Lh, Lw, Ld, Lbu, Lhu, Lwu, Sb, Sh, Sw, Sd, Addi, Slti, Sltiu, Xori, Ori, Andi, Addiw, Slli, Srli, Srai, Slliw, Srliw, Sraiw, Add, Sll, Slt, Sltu, Xor, Srl, Or, And, Sub, Sra, Mul, Mulh, Mulhsu, Mulhu, Div, Divu, Rem, Remu, Addw, Sllw, Srlw, Subw, Sraw, Mulw, Divw, Divuw, Remw, Remuw, Fence, FenceI, Ecall, Ebreak, Mret, Wfi, Csrrw, Csrrs, Csrrc, Csrrwi, Csrrsi, Csrrci}
+use Rattle.hv_isa.specs.declared.functs.TheConstants.{ADD, ALTERNATE, AND, ARITHMETIC, BASE, BEQ, BGE, BGEU, BLT, BLTU, BNE, CSRRC, CSRRCI, CSRRS, CSRRSI, CSRRW, CSRRWI, DIV, DIVU, FENCE, FENCE_I, JALR_FUNCT3, LB, LBU, LD, LH, LHU, LOGICAL, LW, LWU, MUL, MULDIV, MULH, MULHSU, MULHU, OR, REM, REMU, SB, SD, SH, SLL, SLT, SLTU, SRA, SRL, SUB, SW, XOR}
+use Rattle.hv_isa.specs.declared.opcodes.TheConstants.{AUIPC, BRANCH, EBREAK, ECALL, JAL, JALR, LOAD, LUI, MISC_MEM, MRET, OP, OP_32, OP_IMM, OP_IMM_32, STORE, SYSTEM, WFI}
 use Rattle.hv_isa.specs.Formats.{bits, r_type, i_type, s_type, b_type, u_type, j_type, long_shift_type, short_shift_type, field_type}
 
 -- bits that a row fixes
@@ -61,140 +64,140 @@ jal_rows =
 -- JALR
 abbrev pub jalr_rows : List Row
 jalr_rows =
-    row (funct3 0 ∷ []) (i_type Jalr) ∷
+    row (funct3 JALR_FUNCT3 ∷ []) (i_type Jalr) ∷
     []
 
 -- BRANCH
 abbrev pub branch_rows : List Row
 branch_rows =
-    row (funct3 0 ∷ []) (b_type Beq) ∷
-    row (funct3 1 ∷ []) (b_type Bne) ∷
-    row (funct3 4 ∷ []) (b_type Blt) ∷
-    row (funct3 5 ∷ []) (b_type Bge) ∷
-    row (funct3 6 ∷ []) (b_type Bltu) ∷
-    row (funct3 7 ∷ []) (b_type Bgeu) ∷
+    row (funct3 BEQ ∷ []) (b_type Beq) ∷
+    row (funct3 BNE ∷ []) (b_type Bne) ∷
+    row (funct3 BLT ∷ []) (b_type Blt) ∷
+    row (funct3 BGE ∷ []) (b_type Bge) ∷
+    row (funct3 BLTU ∷ []) (b_type Bltu) ∷
+    row (funct3 BGEU ∷ []) (b_type Bgeu) ∷
     []
 
 -- LOAD
 abbrev pub load_rows : List Row
 load_rows =
-    row (funct3 0 ∷ []) (i_type Lb) ∷
-    row (funct3 1 ∷ []) (i_type Lh) ∷
-    row (funct3 2 ∷ []) (i_type Lw) ∷
-    row (funct3 3 ∷ []) (i_type Ld) ∷
-    row (funct3 4 ∷ []) (i_type Lbu) ∷
-    row (funct3 5 ∷ []) (i_type Lhu) ∷
-    row (funct3 6 ∷ []) (i_type Lwu) ∷
+    row (funct3 LB ∷ []) (i_type Lb) ∷
+    row (funct3 LH ∷ []) (i_type Lh) ∷
+    row (funct3 LW ∷ []) (i_type Lw) ∷
+    row (funct3 LD ∷ []) (i_type Ld) ∷
+    row (funct3 LBU ∷ []) (i_type Lbu) ∷
+    row (funct3 LHU ∷ []) (i_type Lhu) ∷
+    row (funct3 LWU ∷ []) (i_type Lwu) ∷
     []
 
 -- STORE
 abbrev pub store_rows : List Row
 store_rows =
-    row (funct3 0 ∷ []) (s_type Sb) ∷
-    row (funct3 1 ∷ []) (s_type Sh) ∷
-    row (funct3 2 ∷ []) (s_type Sw) ∷
-    row (funct3 3 ∷ []) (s_type Sd) ∷
+    row (funct3 SB ∷ []) (s_type Sb) ∷
+    row (funct3 SH ∷ []) (s_type Sh) ∷
+    row (funct3 SW ∷ []) (s_type Sw) ∷
+    row (funct3 SD ∷ []) (s_type Sd) ∷
     []
 
 -- OP-IMM
 abbrev pub immediate_rows : List Row
 immediate_rows =
-    row (funct3 0 ∷ []) (i_type Addi) ∷
-    row (funct3 2 ∷ []) (i_type Slti) ∷
-    row (funct3 3 ∷ []) (i_type Sltiu) ∷
-    row (funct3 4 ∷ []) (i_type Xori) ∷
-    row (funct3 6 ∷ []) (i_type Ori) ∷
-    row (funct3 7 ∷ []) (i_type Andi) ∷
-    row (funct3 1 ∷ funct6 0 ∷ []) (long_shift_type Slli) ∷
-    row (funct3 5 ∷ funct6 0 ∷ []) (long_shift_type Srli) ∷
-    row (funct3 5 ∷ funct6 16 ∷ []) (long_shift_type Srai) ∷
+    row (funct3 ADD ∷ []) (i_type Addi) ∷
+    row (funct3 SLT ∷ []) (i_type Slti) ∷
+    row (funct3 SLTU ∷ []) (i_type Sltiu) ∷
+    row (funct3 XOR ∷ []) (i_type Xori) ∷
+    row (funct3 OR ∷ []) (i_type Ori) ∷
+    row (funct3 AND ∷ []) (i_type Andi) ∷
+    row (funct3 SLL ∷ funct6 LOGICAL ∷ []) (long_shift_type Slli) ∷
+    row (funct3 SRL ∷ funct6 LOGICAL ∷ []) (long_shift_type Srli) ∷
+    row (funct3 SRA ∷ funct6 ARITHMETIC ∷ []) (long_shift_type Srai) ∷
     []
 
 -- OP-IMM-32
 abbrev pub immediate_word_rows : List Row
 immediate_word_rows =
-    row (funct3 0 ∷ []) (i_type Addiw) ∷
-    row (funct3 1 ∷ funct7 0 ∷ []) (short_shift_type Slliw) ∷
-    row (funct3 5 ∷ funct7 0 ∷ []) (short_shift_type Srliw) ∷
-    row (funct3 5 ∷ funct7 32 ∷ []) (short_shift_type Sraiw) ∷
+    row (funct3 ADD ∷ []) (i_type Addiw) ∷
+    row (funct3 SLL ∷ funct7 BASE ∷ []) (short_shift_type Slliw) ∷
+    row (funct3 SRL ∷ funct7 BASE ∷ []) (short_shift_type Srliw) ∷
+    row (funct3 SRA ∷ funct7 ALTERNATE ∷ []) (short_shift_type Sraiw) ∷
     []
 
 -- OP
 abbrev pub register_rows : List Row
 register_rows =
-    row (funct7 0 ∷ funct3 0 ∷ []) (r_type Add) ∷
-    row (funct7 0 ∷ funct3 1 ∷ []) (r_type Sll) ∷
-    row (funct7 0 ∷ funct3 2 ∷ []) (r_type Slt) ∷
-    row (funct7 0 ∷ funct3 3 ∷ []) (r_type Sltu) ∷
-    row (funct7 0 ∷ funct3 4 ∷ []) (r_type Xor) ∷
-    row (funct7 0 ∷ funct3 5 ∷ []) (r_type Srl) ∷
-    row (funct7 0 ∷ funct3 6 ∷ []) (r_type Or) ∷
-    row (funct7 0 ∷ funct3 7 ∷ []) (r_type And) ∷
-    row (funct7 32 ∷ funct3 0 ∷ []) (r_type Sub) ∷
-    row (funct7 32 ∷ funct3 5 ∷ []) (r_type Sra) ∷
-    row (funct7 1 ∷ funct3 0 ∷ []) (r_type Mul) ∷
-    row (funct7 1 ∷ funct3 1 ∷ []) (r_type Mulh) ∷
-    row (funct7 1 ∷ funct3 2 ∷ []) (r_type Mulhsu) ∷
-    row (funct7 1 ∷ funct3 3 ∷ []) (r_type Mulhu) ∷
-    row (funct7 1 ∷ funct3 4 ∷ []) (r_type Div) ∷
-    row (funct7 1 ∷ funct3 5 ∷ []) (r_type Divu) ∷
-    row (funct7 1 ∷ funct3 6 ∷ []) (r_type Rem) ∷
-    row (funct7 1 ∷ funct3 7 ∷ []) (r_type Remu) ∷
+    row (funct7 BASE ∷ funct3 ADD ∷ []) (r_type Add) ∷
+    row (funct7 BASE ∷ funct3 SLL ∷ []) (r_type Sll) ∷
+    row (funct7 BASE ∷ funct3 SLT ∷ []) (r_type Slt) ∷
+    row (funct7 BASE ∷ funct3 SLTU ∷ []) (r_type Sltu) ∷
+    row (funct7 BASE ∷ funct3 XOR ∷ []) (r_type Xor) ∷
+    row (funct7 BASE ∷ funct3 SRL ∷ []) (r_type Srl) ∷
+    row (funct7 BASE ∷ funct3 OR ∷ []) (r_type Or) ∷
+    row (funct7 BASE ∷ funct3 AND ∷ []) (r_type And) ∷
+    row (funct7 ALTERNATE ∷ funct3 SUB ∷ []) (r_type Sub) ∷
+    row (funct7 ALTERNATE ∷ funct3 SRA ∷ []) (r_type Sra) ∷
+    row (funct7 MULDIV ∷ funct3 MUL ∷ []) (r_type Mul) ∷
+    row (funct7 MULDIV ∷ funct3 MULH ∷ []) (r_type Mulh) ∷
+    row (funct7 MULDIV ∷ funct3 MULHSU ∷ []) (r_type Mulhsu) ∷
+    row (funct7 MULDIV ∷ funct3 MULHU ∷ []) (r_type Mulhu) ∷
+    row (funct7 MULDIV ∷ funct3 DIV ∷ []) (r_type Div) ∷
+    row (funct7 MULDIV ∷ funct3 DIVU ∷ []) (r_type Divu) ∷
+    row (funct7 MULDIV ∷ funct3 REM ∷ []) (r_type Rem) ∷
+    row (funct7 MULDIV ∷ funct3 REMU ∷ []) (r_type Remu) ∷
     []
 
 -- OP-32
 abbrev pub register_word_rows : List Row
 register_word_rows =
-    row (funct7 0 ∷ funct3 0 ∷ []) (r_type Addw) ∷
-    row (funct7 0 ∷ funct3 1 ∷ []) (r_type Sllw) ∷
-    row (funct7 0 ∷ funct3 5 ∷ []) (r_type Srlw) ∷
-    row (funct7 32 ∷ funct3 0 ∷ []) (r_type Subw) ∷
-    row (funct7 32 ∷ funct3 5 ∷ []) (r_type Sraw) ∷
-    row (funct7 1 ∷ funct3 0 ∷ []) (r_type Mulw) ∷
-    row (funct7 1 ∷ funct3 4 ∷ []) (r_type Divw) ∷
-    row (funct7 1 ∷ funct3 5 ∷ []) (r_type Divuw) ∷
-    row (funct7 1 ∷ funct3 6 ∷ []) (r_type Remw) ∷
-    row (funct7 1 ∷ funct3 7 ∷ []) (r_type Remuw) ∷
+    row (funct7 BASE ∷ funct3 ADD ∷ []) (r_type Addw) ∷
+    row (funct7 BASE ∷ funct3 SLL ∷ []) (r_type Sllw) ∷
+    row (funct7 BASE ∷ funct3 SRL ∷ []) (r_type Srlw) ∷
+    row (funct7 ALTERNATE ∷ funct3 SUB ∷ []) (r_type Subw) ∷
+    row (funct7 ALTERNATE ∷ funct3 SRA ∷ []) (r_type Sraw) ∷
+    row (funct7 MULDIV ∷ funct3 MUL ∷ []) (r_type Mulw) ∷
+    row (funct7 MULDIV ∷ funct3 DIV ∷ []) (r_type Divw) ∷
+    row (funct7 MULDIV ∷ funct3 DIVU ∷ []) (r_type Divuw) ∷
+    row (funct7 MULDIV ∷ funct3 REM ∷ []) (r_type Remw) ∷
+    row (funct7 MULDIV ∷ funct3 REMU ∷ []) (r_type Remuw) ∷
     []
 
 -- MISC-MEM
 abbrev pub fence_rows : List Row
 fence_rows =
-    row (funct3 0 ∷ []) (field_type Fence) ∷
-    row (funct3 1 ∷ []) (field_type FenceI) ∷
+    row (funct3 FENCE ∷ []) (field_type Fence) ∷
+    row (funct3 FENCE_I ∷ []) (field_type FenceI) ∷
     []
 
 -- SYSTEM
 abbrev pub system_rows : List Row
 system_rows =
-    row (funct3 1 ∷ []) (field_type Csrrw) ∷
-    row (funct3 2 ∷ []) (field_type Csrrs) ∷
-    row (funct3 3 ∷ []) (field_type Csrrc) ∷
-    row (funct3 5 ∷ []) (field_type Csrrwi) ∷
-    row (funct3 6 ∷ []) (field_type Csrrsi) ∷
-    row (funct3 7 ∷ []) (field_type Csrrci) ∷
-    row (whole 0x00000073 ∷ []) (λ word. Ecall) ∷
-    row (whole 0x00100073 ∷ []) (λ word. Ebreak) ∷
-    row (whole 0x30200073 ∷ []) (λ word. Mret) ∷
-    row (whole 0x10500073 ∷ []) (λ word. Wfi) ∷
+    row (funct3 CSRRW ∷ []) (field_type Csrrw) ∷
+    row (funct3 CSRRS ∷ []) (field_type Csrrs) ∷
+    row (funct3 CSRRC ∷ []) (field_type Csrrc) ∷
+    row (funct3 CSRRWI ∷ []) (field_type Csrrwi) ∷
+    row (funct3 CSRRSI ∷ []) (field_type Csrrsi) ∷
+    row (funct3 CSRRCI ∷ []) (field_type Csrrci) ∷
+    row (whole ECALL ∷ []) (λ word. Ecall) ∷
+    row (whole EBREAK ∷ []) (λ word. Ebreak) ∷
+    row (whole MRET ∷ []) (λ word. Mret) ∷
+    row (whole WFI ∷ []) (λ word. Wfi) ∷
     []
 
 -- the opcode map
 abbrev pub groups : List Group
 groups =
-    record { opcode = 0x37; rows = lui_rows } ∷
-    record { opcode = 0x17; rows = auipc_rows } ∷
-    record { opcode = 0x6f; rows = jal_rows } ∷
-    record { opcode = 0x67; rows = jalr_rows } ∷
-    record { opcode = 0x63; rows = branch_rows } ∷
-    record { opcode = 0x03; rows = load_rows } ∷
-    record { opcode = 0x23; rows = store_rows } ∷
-    record { opcode = 0x13; rows = immediate_rows } ∷
-    record { opcode = 0x1b; rows = immediate_word_rows } ∷
-    record { opcode = 0x33; rows = register_rows } ∷
-    record { opcode = 0x3b; rows = register_word_rows } ∷
-    record { opcode = 0x0f; rows = fence_rows } ∷
-    record { opcode = 0x73; rows = system_rows } ∷
+    record { opcode = LUI; rows = lui_rows } ∷
+    record { opcode = AUIPC; rows = auipc_rows } ∷
+    record { opcode = JAL; rows = jal_rows } ∷
+    record { opcode = JALR; rows = jalr_rows } ∷
+    record { opcode = BRANCH; rows = branch_rows } ∷
+    record { opcode = LOAD; rows = load_rows } ∷
+    record { opcode = STORE; rows = store_rows } ∷
+    record { opcode = OP_IMM; rows = immediate_rows } ∷
+    record { opcode = OP_IMM_32; rows = immediate_word_rows } ∷
+    record { opcode = OP; rows = register_rows } ∷
+    record { opcode = OP_32; rows = register_word_rows } ∷
+    record { opcode = MISC_MEM; rows = fence_rows } ∷
+    record { opcode = SYSTEM; rows = system_rows } ∷
     []
 
 -- a word has what a row fixes

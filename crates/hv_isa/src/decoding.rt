@@ -8,7 +8,26 @@ use crate::fields::{
     b_immediate, funct3, funct6, funct7, i_immediate, j_immediate, long_amount, rd, rs1, rs2,
     s_immediate, upper_field, upper_immediate,
 };
+use crate::functs::{
+    ADD, ALTERNATE, AND, ARITHMETIC, BASE, BEQ, BGE, BGEU, BLT, BLTU, BNE, CSRRC, CSRRCI, CSRRS,
+    CSRRSI, CSRRW, CSRRWI, DIV, DIVU, FENCE, FENCE_I, JALR_FUNCT3, LB, LBU, LD, LH, LHU, LOGICAL,
+    LW, LWU, MUL, MULDIV, MULH, MULHSU, MULHU, OR, REM, REMU, SB, SD, SH, SLL, SLT, SLTU, SRA, SRL,
+    SUB, SW, XOR,
+};
+use crate::opcodes::{
+    AUIPC, BRANCH, EBREAK, ECALL, JAL, JALR, LOAD, LUI, MISC_MEM, MRET, OP, OP_32, OP_IMM,
+    OP_IMM_32, STORE, SYSTEM, WFI,
+};
 use hv_exec::Inst;
+
+// The bits above the opcode of each word that has no operands.
+const ECALL_HEAD: u32 = ECALL >> 7;
+
+const EBREAK_HEAD: u32 = EBREAK >> 7;
+
+const MRET_HEAD: u32 = MRET >> 7;
+
+const WFI_HEAD: u32 = WFI >> 7;
 
 /// The instruction that a word is, or None where it is in no row of the table.
 #[tactic(auto, unfolding(crate::specs::Table::decoded, hv_exec::specs::Fields::IsWellFormed))]
@@ -17,28 +36,28 @@ pub fn decode(word: u32) -> Option<Inst>
     ensures well_formed { IfSome result (λ i. IsWellFormed i) }
 {
     match word % 128 {
-        0x37 => Some(Inst::Lui {
+        LUI => Some(Inst::Lui {
             rd: rd(word),
             imm: upper_immediate(word),
         }),
-        0x17 => Some(Inst::Auipc {
+        AUIPC => Some(Inst::Auipc {
             rd: rd(word),
             imm: upper_immediate(word),
         }),
-        0x6f => Some(Inst::Jal {
+        JAL => Some(Inst::Jal {
             rd: rd(word),
             offset: j_immediate(word),
         }),
-        0x67 => jump(word),
-        0x63 => branch(word),
-        0x03 => load(word),
-        0x23 => store(word),
-        0x13 => immediate(word),
-        0x1b => immediate_word(word),
-        0x33 => register(word),
-        0x3b => register_word(word),
-        0x0f => fence(word),
-        0x73 => system(word),
+        JALR => jump(word),
+        BRANCH => branch(word),
+        LOAD => load(word),
+        STORE => store(word),
+        OP_IMM => immediate(word),
+        OP_IMM_32 => immediate_word(word),
+        OP => register(word),
+        OP_32 => register_word(word),
+        MISC_MEM => fence(word),
+        SYSTEM => system(word),
         _ => None,
     }
 }
@@ -49,7 +68,7 @@ fn jump(word: u32) -> Option<Inst>
     ensures well_formed { IfSome result (λ i. IsWellFormed i) }
 {
     match funct3(word) {
-        0 => Some(Inst::Jalr {
+        JALR_FUNCT3 => Some(Inst::Jalr {
             rd: rd(word),
             rs1: rs1(word),
             imm: i_immediate(word),
@@ -64,32 +83,32 @@ fn branch(word: u32) -> Option<Inst>
     ensures well_formed { IfSome result (λ i. IsWellFormed i) }
 {
     match funct3(word) {
-        0 => Some(Inst::Beq {
+        BEQ => Some(Inst::Beq {
             rs1: rs1(word),
             rs2: rs2(word),
             offset: b_immediate(word),
         }),
-        1 => Some(Inst::Bne {
+        BNE => Some(Inst::Bne {
             rs1: rs1(word),
             rs2: rs2(word),
             offset: b_immediate(word),
         }),
-        4 => Some(Inst::Blt {
+        BLT => Some(Inst::Blt {
             rs1: rs1(word),
             rs2: rs2(word),
             offset: b_immediate(word),
         }),
-        5 => Some(Inst::Bge {
+        BGE => Some(Inst::Bge {
             rs1: rs1(word),
             rs2: rs2(word),
             offset: b_immediate(word),
         }),
-        6 => Some(Inst::Bltu {
+        BLTU => Some(Inst::Bltu {
             rs1: rs1(word),
             rs2: rs2(word),
             offset: b_immediate(word),
         }),
-        7 => Some(Inst::Bgeu {
+        BGEU => Some(Inst::Bgeu {
             rs1: rs1(word),
             rs2: rs2(word),
             offset: b_immediate(word),
@@ -104,37 +123,37 @@ fn load(word: u32) -> Option<Inst>
     ensures well_formed { IfSome result (λ i. IsWellFormed i) }
 {
     match funct3(word) {
-        0 => Some(Inst::Lb {
+        LB => Some(Inst::Lb {
             rd: rd(word),
             rs1: rs1(word),
             imm: i_immediate(word),
         }),
-        1 => Some(Inst::Lh {
+        LH => Some(Inst::Lh {
             rd: rd(word),
             rs1: rs1(word),
             imm: i_immediate(word),
         }),
-        2 => Some(Inst::Lw {
+        LW => Some(Inst::Lw {
             rd: rd(word),
             rs1: rs1(word),
             imm: i_immediate(word),
         }),
-        3 => Some(Inst::Ld {
+        LD => Some(Inst::Ld {
             rd: rd(word),
             rs1: rs1(word),
             imm: i_immediate(word),
         }),
-        4 => Some(Inst::Lbu {
+        LBU => Some(Inst::Lbu {
             rd: rd(word),
             rs1: rs1(word),
             imm: i_immediate(word),
         }),
-        5 => Some(Inst::Lhu {
+        LHU => Some(Inst::Lhu {
             rd: rd(word),
             rs1: rs1(word),
             imm: i_immediate(word),
         }),
-        6 => Some(Inst::Lwu {
+        LWU => Some(Inst::Lwu {
             rd: rd(word),
             rs1: rs1(word),
             imm: i_immediate(word),
@@ -149,22 +168,22 @@ fn store(word: u32) -> Option<Inst>
     ensures well_formed { IfSome result (λ i. IsWellFormed i) }
 {
     match funct3(word) {
-        0 => Some(Inst::Sb {
+        SB => Some(Inst::Sb {
             rs1: rs1(word),
             rs2: rs2(word),
             imm: s_immediate(word),
         }),
-        1 => Some(Inst::Sh {
+        SH => Some(Inst::Sh {
             rs1: rs1(word),
             rs2: rs2(word),
             imm: s_immediate(word),
         }),
-        2 => Some(Inst::Sw {
+        SW => Some(Inst::Sw {
             rs1: rs1(word),
             rs2: rs2(word),
             imm: s_immediate(word),
         }),
-        3 => Some(Inst::Sd {
+        SD => Some(Inst::Sd {
             rs1: rs1(word),
             rs2: rs2(word),
             imm: s_immediate(word),
@@ -179,47 +198,47 @@ fn immediate(word: u32) -> Option<Inst>
     ensures well_formed { IfSome result (λ i. IsWellFormed i) }
 {
     match (funct3(word), funct6(word)) {
-        (0, _) => Some(Inst::Addi {
+        (ADD, _) => Some(Inst::Addi {
             rd: rd(word),
             rs1: rs1(word),
             imm: i_immediate(word),
         }),
-        (2, _) => Some(Inst::Slti {
+        (SLT, _) => Some(Inst::Slti {
             rd: rd(word),
             rs1: rs1(word),
             imm: i_immediate(word),
         }),
-        (3, _) => Some(Inst::Sltiu {
+        (SLTU, _) => Some(Inst::Sltiu {
             rd: rd(word),
             rs1: rs1(word),
             imm: i_immediate(word),
         }),
-        (4, _) => Some(Inst::Xori {
+        (XOR, _) => Some(Inst::Xori {
             rd: rd(word),
             rs1: rs1(word),
             imm: i_immediate(word),
         }),
-        (6, _) => Some(Inst::Ori {
+        (OR, _) => Some(Inst::Ori {
             rd: rd(word),
             rs1: rs1(word),
             imm: i_immediate(word),
         }),
-        (7, _) => Some(Inst::Andi {
+        (AND, _) => Some(Inst::Andi {
             rd: rd(word),
             rs1: rs1(word),
             imm: i_immediate(word),
         }),
-        (1, 0) => Some(Inst::Slli {
+        (SLL, LOGICAL) => Some(Inst::Slli {
             rd: rd(word),
             rs1: rs1(word),
             shamt: long_amount(word),
         }),
-        (5, 0) => Some(Inst::Srli {
+        (SRL, LOGICAL) => Some(Inst::Srli {
             rd: rd(word),
             rs1: rs1(word),
             shamt: long_amount(word),
         }),
-        (5, 16) => Some(Inst::Srai {
+        (SRA, ARITHMETIC) => Some(Inst::Srai {
             rd: rd(word),
             rs1: rs1(word),
             shamt: long_amount(word),
@@ -234,22 +253,22 @@ fn immediate_word(word: u32) -> Option<Inst>
     ensures well_formed { IfSome result (λ i. IsWellFormed i) }
 {
     match (funct3(word), funct7(word)) {
-        (0, _) => Some(Inst::Addiw {
+        (ADD, _) => Some(Inst::Addiw {
             rd: rd(word),
             rs1: rs1(word),
             imm: i_immediate(word),
         }),
-        (1, 0x0) => Some(Inst::Slliw {
+        (SLL, BASE) => Some(Inst::Slliw {
             rd: rd(word),
             rs1: rs1(word),
             shamt: rs2(word),
         }),
-        (5, 0x0) => Some(Inst::Srliw {
+        (SRL, BASE) => Some(Inst::Srliw {
             rd: rd(word),
             rs1: rs1(word),
             shamt: rs2(word),
         }),
-        (5, 0x20) => Some(Inst::Sraiw {
+        (SRA, ALTERNATE) => Some(Inst::Sraiw {
             rd: rd(word),
             rs1: rs1(word),
             shamt: rs2(word),
@@ -264,92 +283,92 @@ fn register(word: u32) -> Option<Inst>
     ensures well_formed { IfSome result (λ i. IsWellFormed i) }
 {
     match (funct7(word), funct3(word)) {
-        (0x0, 0) => Some(Inst::Add {
+        (BASE, ADD) => Some(Inst::Add {
             rd: rd(word),
             rs1: rs1(word),
             rs2: rs2(word),
         }),
-        (0x0, 1) => Some(Inst::Sll {
+        (BASE, SLL) => Some(Inst::Sll {
             rd: rd(word),
             rs1: rs1(word),
             rs2: rs2(word),
         }),
-        (0x0, 2) => Some(Inst::Slt {
+        (BASE, SLT) => Some(Inst::Slt {
             rd: rd(word),
             rs1: rs1(word),
             rs2: rs2(word),
         }),
-        (0x0, 3) => Some(Inst::Sltu {
+        (BASE, SLTU) => Some(Inst::Sltu {
             rd: rd(word),
             rs1: rs1(word),
             rs2: rs2(word),
         }),
-        (0x0, 4) => Some(Inst::Xor {
+        (BASE, XOR) => Some(Inst::Xor {
             rd: rd(word),
             rs1: rs1(word),
             rs2: rs2(word),
         }),
-        (0x0, 5) => Some(Inst::Srl {
+        (BASE, SRL) => Some(Inst::Srl {
             rd: rd(word),
             rs1: rs1(word),
             rs2: rs2(word),
         }),
-        (0x0, 6) => Some(Inst::Or {
+        (BASE, OR) => Some(Inst::Or {
             rd: rd(word),
             rs1: rs1(word),
             rs2: rs2(word),
         }),
-        (0x0, 7) => Some(Inst::And {
+        (BASE, AND) => Some(Inst::And {
             rd: rd(word),
             rs1: rs1(word),
             rs2: rs2(word),
         }),
-        (0x20, 0) => Some(Inst::Sub {
+        (ALTERNATE, SUB) => Some(Inst::Sub {
             rd: rd(word),
             rs1: rs1(word),
             rs2: rs2(word),
         }),
-        (0x20, 5) => Some(Inst::Sra {
+        (ALTERNATE, SRA) => Some(Inst::Sra {
             rd: rd(word),
             rs1: rs1(word),
             rs2: rs2(word),
         }),
-        (0x1, 0) => Some(Inst::Mul {
+        (MULDIV, MUL) => Some(Inst::Mul {
             rd: rd(word),
             rs1: rs1(word),
             rs2: rs2(word),
         }),
-        (0x1, 1) => Some(Inst::Mulh {
+        (MULDIV, MULH) => Some(Inst::Mulh {
             rd: rd(word),
             rs1: rs1(word),
             rs2: rs2(word),
         }),
-        (0x1, 2) => Some(Inst::Mulhsu {
+        (MULDIV, MULHSU) => Some(Inst::Mulhsu {
             rd: rd(word),
             rs1: rs1(word),
             rs2: rs2(word),
         }),
-        (0x1, 3) => Some(Inst::Mulhu {
+        (MULDIV, MULHU) => Some(Inst::Mulhu {
             rd: rd(word),
             rs1: rs1(word),
             rs2: rs2(word),
         }),
-        (0x1, 4) => Some(Inst::Div {
+        (MULDIV, DIV) => Some(Inst::Div {
             rd: rd(word),
             rs1: rs1(word),
             rs2: rs2(word),
         }),
-        (0x1, 5) => Some(Inst::Divu {
+        (MULDIV, DIVU) => Some(Inst::Divu {
             rd: rd(word),
             rs1: rs1(word),
             rs2: rs2(word),
         }),
-        (0x1, 6) => Some(Inst::Rem {
+        (MULDIV, REM) => Some(Inst::Rem {
             rd: rd(word),
             rs1: rs1(word),
             rs2: rs2(word),
         }),
-        (0x1, 7) => Some(Inst::Remu {
+        (MULDIV, REMU) => Some(Inst::Remu {
             rd: rd(word),
             rs1: rs1(word),
             rs2: rs2(word),
@@ -364,52 +383,52 @@ fn register_word(word: u32) -> Option<Inst>
     ensures well_formed { IfSome result (λ i. IsWellFormed i) }
 {
     match (funct7(word), funct3(word)) {
-        (0x0, 0) => Some(Inst::Addw {
+        (BASE, ADD) => Some(Inst::Addw {
             rd: rd(word),
             rs1: rs1(word),
             rs2: rs2(word),
         }),
-        (0x0, 1) => Some(Inst::Sllw {
+        (BASE, SLL) => Some(Inst::Sllw {
             rd: rd(word),
             rs1: rs1(word),
             rs2: rs2(word),
         }),
-        (0x0, 5) => Some(Inst::Srlw {
+        (BASE, SRL) => Some(Inst::Srlw {
             rd: rd(word),
             rs1: rs1(word),
             rs2: rs2(word),
         }),
-        (0x20, 0) => Some(Inst::Subw {
+        (ALTERNATE, SUB) => Some(Inst::Subw {
             rd: rd(word),
             rs1: rs1(word),
             rs2: rs2(word),
         }),
-        (0x20, 5) => Some(Inst::Sraw {
+        (ALTERNATE, SRA) => Some(Inst::Sraw {
             rd: rd(word),
             rs1: rs1(word),
             rs2: rs2(word),
         }),
-        (0x1, 0) => Some(Inst::Mulw {
+        (MULDIV, MUL) => Some(Inst::Mulw {
             rd: rd(word),
             rs1: rs1(word),
             rs2: rs2(word),
         }),
-        (0x1, 4) => Some(Inst::Divw {
+        (MULDIV, DIV) => Some(Inst::Divw {
             rd: rd(word),
             rs1: rs1(word),
             rs2: rs2(word),
         }),
-        (0x1, 5) => Some(Inst::Divuw {
+        (MULDIV, DIVU) => Some(Inst::Divuw {
             rd: rd(word),
             rs1: rs1(word),
             rs2: rs2(word),
         }),
-        (0x1, 6) => Some(Inst::Remw {
+        (MULDIV, REM) => Some(Inst::Remw {
             rd: rd(word),
             rs1: rs1(word),
             rs2: rs2(word),
         }),
-        (0x1, 7) => Some(Inst::Remuw {
+        (MULDIV, REMU) => Some(Inst::Remuw {
             rd: rd(word),
             rs1: rs1(word),
             rs2: rs2(word),
@@ -424,12 +443,12 @@ fn fence(word: u32) -> Option<Inst>
     ensures well_formed { IfSome result (λ i. IsWellFormed i) }
 {
     match funct3(word) {
-        0 => Some(Inst::Fence {
+        FENCE => Some(Inst::Fence {
             rd: rd(word),
             rs1: rs1(word),
             fields: upper_field(word),
         }),
-        1 => Some(Inst::FenceI {
+        FENCE_I => Some(Inst::FenceI {
             rd: rd(word),
             rs1: rs1(word),
             fields: upper_field(word),
@@ -444,40 +463,40 @@ fn system(word: u32) -> Option<Inst>
     ensures well_formed { IfSome result (λ i. IsWellFormed i) }
 {
     match (funct3(word), word >> 7) {
-        (1, _) => Some(Inst::Csrrw {
+        (CSRRW, _) => Some(Inst::Csrrw {
             rd: rd(word),
             rs1: rs1(word),
             csr: upper_field(word),
         }),
-        (2, _) => Some(Inst::Csrrs {
+        (CSRRS, _) => Some(Inst::Csrrs {
             rd: rd(word),
             rs1: rs1(word),
             csr: upper_field(word),
         }),
-        (3, _) => Some(Inst::Csrrc {
+        (CSRRC, _) => Some(Inst::Csrrc {
             rd: rd(word),
             rs1: rs1(word),
             csr: upper_field(word),
         }),
-        (5, _) => Some(Inst::Csrrwi {
+        (CSRRWI, _) => Some(Inst::Csrrwi {
             rd: rd(word),
             imm: rs1(word),
             csr: upper_field(word),
         }),
-        (6, _) => Some(Inst::Csrrsi {
+        (CSRRSI, _) => Some(Inst::Csrrsi {
             rd: rd(word),
             imm: rs1(word),
             csr: upper_field(word),
         }),
-        (7, _) => Some(Inst::Csrrci {
+        (CSRRCI, _) => Some(Inst::Csrrci {
             rd: rd(word),
             imm: rs1(word),
             csr: upper_field(word),
         }),
-        (_, 0x0) => Some(Inst::Ecall),
-        (_, 0x2000) => Some(Inst::Ebreak),
-        (_, 0x604000) => Some(Inst::Mret),
-        (_, 0x20a000) => Some(Inst::Wfi),
+        (_, ECALL_HEAD) => Some(Inst::Ecall),
+        (_, EBREAK_HEAD) => Some(Inst::Ebreak),
+        (_, MRET_HEAD) => Some(Inst::Mret),
+        (_, WFI_HEAD) => Some(Inst::Wfi),
         _ => None,
     }
 }
