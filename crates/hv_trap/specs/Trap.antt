@@ -1,20 +1,24 @@
--- CSR instructions, traps and interrupts in machine mode, by the RISC-V privileged manual.
+-- CSR instructions, traps and interrupts in machine mode, by the RISC-V Privileged Architecture, 3.1.6, 3.1.9, 3.1.15.
 use Rattle.std.specs.Prelude.{◌≡◌, ℕ, ◌+◌, ◌-◌, ◌*◌, ◌^◌, ⊤, Bool, true, false, not, ◌&&◌, ◌==◌, if◌then◌else◌, Option, Some, None, bit_and, bit_or}
 use Rattle.hv_exec.specs.Context.{register_of, with_register, advanced}
 use Rattle.hv_exec.specs.Meaning.{Outcome, done, stays}
+use Rattle.hv_exec.specs.declared.causes.TheConstants.{ILLEGAL_INSTRUCTION, INTERRUPT, MACHINE_EXTERNAL_INTERRUPT, MACHINE_SOFTWARE_INTERRUPT, MACHINE_TIMER_INTERRUPT}
 use Rattle.hv_exec.specs.declared.context.After.{After}
 use Rattle.hv_exec.specs.declared.context.After.TheVariants.{Done, Load, Store, Trap, Wait, System}
 use Rattle.hv_exec.specs.declared.context.Ctx.{Ctx}
 use Rattle.hv_exec.specs.declared.inst.Inst.{Inst}
 use Rattle.hv_exec.specs.declared.inst.Inst.TheVariants.{Mret, Csrrw, Csrrs, Csrrc, Csrrwi, Csrrsi, Csrrci}
+use Rattle.hv_isa.specs.declared.functs.TheConstants.{CSRRC, CSRRCI, CSRRS, CSRRSI, CSRRW, CSRRWI}
+use Rattle.hv_isa.specs.declared.opcodes.TheConstants.{SYSTEM}
 use Rattle.hv_trap.specs.Csr.{is_set, is_enabled, was_enabled, status, csr_of, read, written, is_read_only}
 use Rattle.hv_trap.specs.declared.csr.Change.{Change}
 use Rattle.hv_trap.specs.declared.csr.Change.TheVariants.{Keep, Replace, Set, Clear}
 use Rattle.hv_trap.specs.declared.csr.Csr.{Csr}
+use Rattle.hv_trap.specs.declared.registers.TheConstants.{MEI, MSI, MTI}
 
 -- an illegal instruction traps with its word
 abbrev pub illegal : Ctx → ℕ → Outcome
-illegal ctx word = stays ctx (Trap 2 word)
+illegal ctx word = stays ctx (Trap ILLEGAL_INSTRUCTION word)
 
 -- the context after a change of a register
 abbrev pub changed : Ctx → Csr → Change → ℕ → Ctx
@@ -43,7 +47,7 @@ unless_zero field change = if field == 0 then Keep else change
 
 -- the word of a CSR instruction
 abbrev pub csr_word : ℕ → ℕ → ℕ → ℕ → ℕ
-csr_word funct3 rd field csr = 0x73 + rd * 2 ^ 7 + funct3 * 2 ^ 12 + field * 2 ^ 15 + csr * 2 ^ 20
+csr_word funct3 rd field csr = SYSTEM + rd * 2 ^ 7 + funct3 * 2 ^ 12 + field * 2 ^ 15 + csr * 2 ^ 20
 
 -- interrupts are taken again as they were before the trap, and control goes back
 abbrev pub returned : Ctx → Ctx
@@ -52,14 +56,18 @@ returned ctx = record ctx { mstatus = status (was_enabled ctx) true; pc = ctx.me
 -- what a CSR instruction or MRET leaves and answers; no other instruction comes here
 unfoldable pub system_meaning : Ctx → Inst → Outcome
 system_meaning ctx Mret = done (returned ctx)
-system_meaning ctx (Csrrw rd rs1 csr) = accessed ctx rd (csr_of csr) Replace (register_of ctx rs1) (csr_word 1 rd rs1 csr)
+system_meaning ctx (Csrrw rd rs1 csr) =
+    accessed ctx rd (csr_of csr) Replace (register_of ctx rs1) (csr_word CSRRW rd rs1 csr)
 system_meaning ctx (Csrrs rd rs1 csr) =
-    accessed ctx rd (csr_of csr) (unless_zero rs1 Set) (register_of ctx rs1) (csr_word 2 rd rs1 csr)
+    accessed ctx rd (csr_of csr) (unless_zero rs1 Set) (register_of ctx rs1) (csr_word CSRRS rd rs1 csr)
 system_meaning ctx (Csrrc rd rs1 csr) =
-    accessed ctx rd (csr_of csr) (unless_zero rs1 Clear) (register_of ctx rs1) (csr_word 3 rd rs1 csr)
-system_meaning ctx (Csrrwi rd imm csr) = accessed ctx rd (csr_of csr) Replace imm (csr_word 5 rd imm csr)
-system_meaning ctx (Csrrsi rd imm csr) = accessed ctx rd (csr_of csr) (unless_zero imm Set) imm (csr_word 6 rd imm csr)
-system_meaning ctx (Csrrci rd imm csr) = accessed ctx rd (csr_of csr) (unless_zero imm Clear) imm (csr_word 7 rd imm csr)
+    accessed ctx rd (csr_of csr) (unless_zero rs1 Clear) (register_of ctx rs1) (csr_word CSRRC rd rs1 csr)
+system_meaning ctx (Csrrwi rd imm csr) =
+    accessed ctx rd (csr_of csr) Replace imm (csr_word CSRRWI rd imm csr)
+system_meaning ctx (Csrrsi rd imm csr) =
+    accessed ctx rd (csr_of csr) (unless_zero imm Set) imm (csr_word CSRRSI rd imm csr)
+system_meaning ctx (Csrrci rd imm csr) =
+    accessed ctx rd (csr_of csr) (unless_zero imm Clear) imm (csr_word CSRRCI rd imm csr)
 system_meaning ctx _ = stays ctx System
 
 -- the instruction is over, or it traps and leaves the context
@@ -82,15 +90,15 @@ trapped ctx cause value =
       pc = ctx.mtvec;
     }
 
--- the cause of an interrupt of a number
+-- the cause of an interrupt with an exception code
 abbrev pub interrupt : ℕ → ℕ
-interrupt number = 2 ^ 63 + number
+interrupt code = INTERRUPT + code
 
 -- the interrupt that is taken: external before software before timer, each where its pin and its bit of mie are set
 unfoldable pub chosen : Ctx → Option ℕ
 chosen ctx =
     if not (is_enabled ctx) then None
-    else if ctx.pins.ext && is_set ctx.mie 11 then Some (interrupt 11)
-    else if ctx.pins.soft && is_set ctx.mie 3 then Some (interrupt 3)
-    else if ctx.pins.timer && is_set ctx.mie 7 then Some (interrupt 7)
+    else if ctx.pins.ext && is_set ctx.mie MEI then Some (interrupt MACHINE_EXTERNAL_INTERRUPT)
+    else if ctx.pins.soft && is_set ctx.mie MSI then Some (interrupt MACHINE_SOFTWARE_INTERRUPT)
+    else if ctx.pins.timer && is_set ctx.mie MTI then Some (interrupt MACHINE_TIMER_INTERRUPT)
     else None

@@ -4,6 +4,10 @@ ghost use Rattle.std.specs.Prelude.{◌≡◌, ℕ, ◌+◌, ◌-◌, ◌*◌, �
 ghost use Rattle.hv_trap.specs.Csr as csrs;
 ghost use Rattle.hv_trap.specs.Csr.{is_set, csr_of, mstatus_of, status, written, is_read_only, word_aligned};
 
+use crate::registers::{
+    MACHINE_MODE, MCAUSE, MEI, MEPC, MHARTID, MIE, MIP, MSCRATCH, MSI, MSTATUS, MSTATUS_MIE,
+    MSTATUS_MPIE, MSTATUS_MPP, MTI, MTVAL, MTVEC,
+};
 use hv_exec::Ctx;
 
 /// A register.
@@ -29,32 +33,34 @@ pub enum Change {
     Clear,
 }
 
-// The software, timer and external interrupt in mie.
-const INTERRUPTS: u64 = (1 << 3) + (1 << 7) + (1 << 11);
+// The bits that mie keeps.
+const INTERRUPTS: u64 = (1 << MSI) + (1 << MTI) + (1 << MEI);
 
-// MPP of mstatus.
-const MACHINE_MODE: u64 = 3 << 11;
+// MPP of mstatus, which is always machine mode.
+const MPP: u64 = MACHINE_MODE << MSTATUS_MPP;
 
 /// mstatus as an instruction reads it.
 pub fn mstatus(ctx: &Ctx) -> u64
     ensures { result ≡ mstatus_of ctx.now }
 {
-    status(is_set(ctx.mstatus, 3), is_set(ctx.mstatus, 7)) + MACHINE_MODE
+    let enabled = is_set(ctx.mstatus, MSTATUS_MIE);
+    let previous = is_set(ctx.mstatus, MSTATUS_MPIE);
+    status(enabled, previous) + MPP
 }
 
 pub(crate) fn csr_of(number: u16) -> Option<Csr>
     ensures { result ≡ csr_of number }
 {
     match number {
-        0x300 => Some(Csr::Mstatus),
-        0x304 => Some(Csr::Mie),
-        0x305 => Some(Csr::Mtvec),
-        0x340 => Some(Csr::Mscratch),
-        0x341 => Some(Csr::Mepc),
-        0x342 => Some(Csr::Mcause),
-        0x343 => Some(Csr::Mtval),
-        0x344 => Some(Csr::Mip),
-        0xf14 => Some(Csr::Mhartid),
+        MSTATUS => Some(Csr::Mstatus),
+        MIE => Some(Csr::Mie),
+        MTVEC => Some(Csr::Mtvec),
+        MSCRATCH => Some(Csr::Mscratch),
+        MEPC => Some(Csr::Mepc),
+        MCAUSE => Some(Csr::Mcause),
+        MTVAL => Some(Csr::Mtval),
+        MIP => Some(Csr::Mip),
+        MHARTID => Some(Csr::Mhartid),
         _ => None,
     }
 }
@@ -85,7 +91,10 @@ pub(crate) fn write(ctx: &mut Ctx, csr: Csr, value: u64)
     ensures { ctx.new ≡ written ctx.old csr value }
 {
     match csr {
-        Csr::Mstatus => ctx.mstatus = status(is_set(value, 3), is_set(value, 7)),
+        Csr::Mstatus => ctx.mstatus = status(
+            is_set(value, MSTATUS_MIE),
+            is_set(value, MSTATUS_MPIE),
+        ),
         Csr::Mie => ctx.mie = value & INTERRUPTS,
         Csr::Mtvec => ctx.mtvec = word_aligned(value),
         Csr::Mscratch => ctx.mscratch = value,
@@ -113,7 +122,7 @@ pub(crate) fn is_set(word: u64, bit: u32) -> bool
 pub(crate) fn status(enabled: bool, previous: bool) -> u64
     ensures { result ≡ status enabled previous }
 {
-    let mie = if enabled { 1 << 3 } else { 0 };
-    let mpie = if previous { 1 << 7 } else { 0 };
+    let mie = if enabled { 1 << MSTATUS_MIE } else { 0 };
+    let mpie = if previous { 1 << MSTATUS_MPIE } else { 0 };
     mie + mpie
 }

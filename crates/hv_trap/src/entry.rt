@@ -4,9 +4,11 @@ ghost use Rattle.std.specs.Prelude.{◌≡◌, ℕ, ◌+◌, ◌^◌};
 ghost use Rattle.hv_trap.specs.Trap.{trapped, chosen, returned};
 
 use crate::csr::{is_set, status};
+use crate::registers::{MEI, MSI, MSTATUS_MIE, MSTATUS_MPIE, MTI};
 use hv_exec::Ctx;
-
-const INTERRUPT: u64 = 1 << 63;
+use hv_exec::causes::{
+    INTERRUPT, MACHINE_EXTERNAL_INTERRUPT, MACHINE_SOFTWARE_INTERRUPT, MACHINE_TIMER_INTERRUPT,
+};
 
 /// Enters a trap.
 #[tactic(auto, unfolding(crate::specs::Trap::trapped))]
@@ -16,7 +18,7 @@ pub fn trap(ctx: &mut Ctx, cause: u64, value: u64)
     ctx.mepc = ctx.pc;
     ctx.mcause = cause;
     ctx.mtval = value;
-    ctx.mstatus = status(false, is_set(ctx.mstatus, 3));
+    ctx.mstatus = status(false, is_set(ctx.mstatus, MSTATUS_MIE));
     ctx.pc = ctx.mtvec;
 }
 
@@ -24,7 +26,7 @@ pub fn trap(ctx: &mut Ctx, cause: u64, value: u64)
 pub(crate) fn return_from_trap(ctx: &mut Ctx)
     ensures { ctx.new ≡ returned ctx.old }
 {
-    ctx.mstatus = status(is_set(ctx.mstatus, 7), true);
+    ctx.mstatus = status(is_set(ctx.mstatus, MSTATUS_MPIE), true);
     ctx.pc = ctx.mepc;
 }
 
@@ -33,17 +35,17 @@ pub(crate) fn return_from_trap(ctx: &mut Ctx)
 pub fn choose(ctx: &Ctx) -> Option<u64>
     ensures { result ≡ chosen ctx.now }
 {
-    if !is_set(ctx.mstatus, 3) {
+    if !is_set(ctx.mstatus, MSTATUS_MIE) {
         return None;
     }
-    if ctx.pins.ext && is_set(ctx.mie, 11) {
-        return Some(INTERRUPT + 11);
+    if ctx.pins.ext && is_set(ctx.mie, MEI) {
+        return Some(INTERRUPT + MACHINE_EXTERNAL_INTERRUPT);
     }
-    if ctx.pins.soft && is_set(ctx.mie, 3) {
-        return Some(INTERRUPT + 3);
+    if ctx.pins.soft && is_set(ctx.mie, MSI) {
+        return Some(INTERRUPT + MACHINE_SOFTWARE_INTERRUPT);
     }
-    if ctx.pins.timer && is_set(ctx.mie, 7) {
-        return Some(INTERRUPT + 7);
+    if ctx.pins.timer && is_set(ctx.mie, MTI) {
+        return Some(INTERRUPT + MACHINE_TIMER_INTERRUPT);
     }
     None
 }

@@ -9,7 +9,10 @@ ghost use Rattle.hv_trap.specs.Trap.{accessed, changed, csr_word, IsOver, system
 
 use crate::csr::{Change, Csr, csr_of, is_read_only, read, write};
 use crate::entry::return_from_trap;
+use hv_exec::causes::ILLEGAL_INSTRUCTION;
 use hv_exec::{After, Ctx, Inst};
+use hv_isa::functs::{CSRRC, CSRRCI, CSRRS, CSRRSI, CSRRW, CSRRWI};
+use hv_isa::opcodes::SYSTEM;
 
 /// Carries out a CSR instruction or MRET. An illegal one traps with its word.
 #[tactic(auto, unfolding(crate::specs::Trap::system_meaning, hv_exec::specs::Fields::IsWellFormed, hv_exec::specs::Operation::operation_of))]
@@ -29,7 +32,7 @@ pub fn system(ctx: &mut Ctx, inst: Inst) -> After
                 csr,
                 Change::Replace,
                 operand,
-                csr_word(1, rd, rs1, csr),
+                csr_word(CSRRW, rd, rs1, csr),
             )
         }
         Inst::Csrrs { rd, rs1, csr } => {
@@ -40,7 +43,7 @@ pub fn system(ctx: &mut Ctx, inst: Inst) -> After
                 csr,
                 unless_zero(rs1, Change::Set),
                 operand,
-                csr_word(2, rd, rs1, csr),
+                csr_word(CSRRS, rd, rs1, csr),
             )
         }
         Inst::Csrrc { rd, rs1, csr } => {
@@ -51,7 +54,7 @@ pub fn system(ctx: &mut Ctx, inst: Inst) -> After
                 csr,
                 unless_zero(rs1, Change::Clear),
                 operand,
-                csr_word(3, rd, rs1, csr),
+                csr_word(CSRRC, rd, rs1, csr),
             )
         }
         Inst::Csrrwi { rd, imm, csr } => {
@@ -61,7 +64,7 @@ pub fn system(ctx: &mut Ctx, inst: Inst) -> After
                 csr,
                 Change::Replace,
                 u64::from(imm),
-                csr_word(5, rd, imm, csr),
+                csr_word(CSRRWI, rd, imm, csr),
             )
         }
         Inst::Csrrsi { rd, imm, csr } => {
@@ -71,7 +74,7 @@ pub fn system(ctx: &mut Ctx, inst: Inst) -> After
                 csr,
                 unless_zero(imm, Change::Set),
                 u64::from(imm),
-                csr_word(6, rd, imm, csr),
+                csr_word(CSRRSI, rd, imm, csr),
             )
         }
         Inst::Csrrci { rd, imm, csr } => {
@@ -81,7 +84,7 @@ pub fn system(ctx: &mut Ctx, inst: Inst) -> After
                 csr,
                 unless_zero(imm, Change::Clear),
                 u64::from(imm),
-                csr_word(7, rd, imm, csr),
+                csr_word(CSRRCI, rd, imm, csr),
             )
         }
         Inst::Mret => {
@@ -99,13 +102,13 @@ fn access(ctx: &mut Ctx, rd: u8, number: u16, change: Change, operand: u64, word
 {
     let Some(csr) = csr_of(number) else {
         return After::Trap {
-            cause: 2,
+            cause: ILLEGAL_INSTRUCTION,
             value: word,
         };
     };
     if writes(change) && is_read_only(csr) {
         return After::Trap {
-            cause: 2,
+            cause: ILLEGAL_INSTRUCTION,
             value: word,
         };
     }
@@ -140,10 +143,10 @@ fn unless_zero(field: u8, change: Change) -> Change
     if field == 0 { Change::Keep } else { change }
 }
 
-fn csr_word(funct3: u64, rd: u8, field: u8, csr: u16) -> u64
+fn csr_word(funct3: u32, rd: u8, field: u8, csr: u16) -> u64
     requires { funct3 < 8 }
     ensures { result ≡ csr_word funct3 rd field csr }
 {
-    let low = 0x73 + u64::from(rd) * 0x80 + funct3 * 0x1000;
+    let low = u64::from(SYSTEM) + u64::from(rd) * 0x80 + u64::from(funct3) * 0x1000;
     low + u64::from(field) * 0x8000 + u64::from(csr) * 0x10_0000
 }

@@ -4,6 +4,7 @@
 mod csr;
 mod entry;
 mod instructions;
+pub mod registers;
 #[cfg(test)]
 mod tests;
 
