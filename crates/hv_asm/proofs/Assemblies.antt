@@ -6,7 +6,8 @@ use Rattle.std.proofs.lemmas.List.{append-nil}
 use Rattle.hv_text.specs.Lines.{script_lines, IsLineAt}
 use Rattle.hv_asm.specs.declared.refusal.AsmRefusal.{AsmRefusal}
 use Rattle.hv_asm.specs.declared.refusal.AsmRefusal.TheVariants.{BadAsm, Memory}
-use Rattle.hv_asm.specs.Assembly.{AllGive, answer_bytes, IsAssembled, HasBadLine, Says, IsUnlessMemory, AddsLine}
+use Rattle.hv_asm.specs.Assembly.{AllGive, answer_bytes, IsAssembled, HasBadLine, Says, IsUnlessMemory}
+use Rattle.hv_asm.specs.Adding.{AddsLine}
 use Rattle.hv_asm.specs.Line.{Gives, IsBadLine}
 use Rattle.hv_asm.proofs.Unique.{gives_once}
 

@@ -11,7 +11,8 @@ use Rattle.hv_asm.specs.declared.operand.Operand.TheVariants.{Register, Decimal,
 use Rattle.hv_asm.specs.declared.operand.Operands.{Operands}
 use Rattle.hv_asm.specs.declared.operand.Operands.TheVariants.{Nothing, Two, Three}
 use Rattle.hv_asm.specs.Candidates.{named, bare_instructions, register_instructions, immediate_instructions, branches, long_shifts, short_shifts, loads, stores, jumps, upper_instructions, csr_register_instructions, csr_immediate_instructions, fences}
-use Rattle.hv_asm.specs.Reading.{HaveRegisters, all_as_read, of_immediate, of_branch, of_long_shift, of_short_shift, of_number, of_load, of_store, of_jump, of_upper, of_csr_register, of_csr_immediate, of_fence, instruction_of, HasSyntax}
+use Rattle.hv_asm.specs.Reading.{HaveRegisters, all_as_read, HasSyntax}
+use Rattle.hv_asm.specs.Forms.{of_immediate, of_branch, of_long_shift, of_short_shift, of_number, of_load, of_store, of_jump, of_upper, of_csr_register, of_csr_immediate, of_fence, instruction_of}
 use Rattle.hv_asm.specs.Syntax.{syntax_of}
 use Rattle.hv_asm.proofs.Ranges.{fits_12, is_immediate, fits_13, is_branch, fits_21, is_jump, fits_below, is_below}
 

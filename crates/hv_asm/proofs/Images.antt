@@ -21,7 +21,8 @@ use Rattle.hv_asm.specs.Assembly.{AllGive, answer_bytes, IsAssembled}
 use Rattle.hv_asm.specs.Image.{register_below, before_base, based_operand, operand_read, before_comma, operands_read, two_operands, three_operands, numbered_word, word_named, word_given, line_bytes, image_of}
 use Rattle.hv_asm.specs.Line.{words, without_comment, SpellWord, Give}
 use Rattle.hv_asm.specs.Operand.{number_value, register_text, based_text, Spells}
-use Rattle.hv_asm.specs.Reading.{HasRegisters, as_read, instruction_of, IsWordOf}
+use Rattle.hv_asm.specs.Reading.{HasRegisters, as_read, IsWordOf}
+use Rattle.hv_asm.specs.Forms.{instruction_of}
 use Rattle.hv_asm.proofs.Lines.{IsExactly, found, word_read, some_words}
 use Rattle.hv_asm.proofs.Numbers.{no_register_value}
 use Rattle.hv_asm.proofs.Spelling.{register_free, number_free_40, same_register, same_before}

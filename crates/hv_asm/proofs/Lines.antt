@@ -11,7 +11,8 @@ use Rattle.hv_asm.specs.declared.operand.Operands.{Operands}
 use Rattle.hv_asm.specs.declared.operand.Operands.TheVariants.{Nothing, One, Two, Three}
 use Rattle.hv_asm.specs.Line.{IsSpelled, SpellWord, Give}
 use Rattle.hv_asm.specs.Operand.{Spells, AreSpelled}
-use Rattle.hv_asm.specs.Reading.{HaveRegisters, as_read, all_as_read, instruction_of, HasSyntax, IsWordOf}
+use Rattle.hv_asm.specs.Reading.{HaveRegisters, as_read, all_as_read, HasSyntax, IsWordOf}
+use Rattle.hv_asm.specs.Forms.{instruction_of}
 use Rattle.hv_asm.specs.Syntax.{Syntax, syntax_of, literal}
 use Rattle.hv_asm.proofs.Table.{complete, fit_fields}
 

@@ -4,7 +4,7 @@ use Rattle.std.specs.Prelude.{ℤ, pos, negsuc, unsigned_abs}
 use Rattle.std.proofs.lemmas.Int.{ints}
 use Rattle.std.proofs.lemmas.Bool.Decides.{nat_tests}
 use Rattle.hv_exec.specs.Fields.{IsSigned, IsOffset}
-use Rattle.hv_asm.specs.Reading.{is_within, is_even_within}
+use Rattle.hv_asm.specs.Forms.{is_within, is_even_within}
 
 -- a number within these bounds has twelve bits
 abbrev pub fits_12 : ℤ → Bool

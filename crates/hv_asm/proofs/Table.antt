@@ -6,7 +6,8 @@ use Rattle.hv_exec.specs.Fields.{IsWellFormed}
 use Rattle.hv_exec.specs.declared.inst.Inst.{Inst}
 use Rattle.hv_exec.specs.declared.inst.Inst.TheVariants.{Lui, Auipc, Jal, Jalr, Lb, Lh, Lw, Ld, Lbu, Lhu, Lwu, Sb, Sh, Sw, Sd, Beq, Bne, Blt, Bge, Bltu, Bgeu, Addi, Slti, Sltiu, Xori, Ori, Andi, Addiw, Slli, Srli, Srai, Slliw, Srliw, Sraiw, Add, Sub, Sll, Slt, Sltu, Xor, Srl, Sra, Or, And, Mul, Mulh, Mulhsu, Mulhu, Div, Divu, Rem, Remu, Addw, Subw, Sllw, Srlw, Sraw, Mulw, Divw, Divuw, Remw, Remuw, Fence, FenceI, Ecall, Ebreak, Mret, Wfi, Csrrw, Csrrs, Csrrc, Csrrwi, Csrrsi, Csrrci}
 use Rattle.hv_asm.specs.Candidates.{named}
-use Rattle.hv_asm.specs.Reading.{HaveRegisters, all_as_read, instruction_of}
+use Rattle.hv_asm.specs.Reading.{HaveRegisters, all_as_read}
+use Rattle.hv_asm.specs.Forms.{instruction_of}
 use Rattle.hv_asm.specs.Syntax.{syntax_of}
 use Rattle.hv_asm.proofs.Ranges.{fits_12, immediate_fits, fits_13, branch_fits, fits_21, jump_fits, fits_below, below_fits}
 

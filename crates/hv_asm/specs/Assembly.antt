@@ -46,14 +46,3 @@ abbrev pub IsUnlessMemory : Result (List ℕ) AsmRefusal → Result (List ℕ) A
 IsUnlessMemory (Ok bytes) wanted = Ok bytes ≡ wanted
 IsUnlessMemory (Err (BadAsm number)) wanted = Err (BadAsm number) ≡ wanted
 IsUnlessMemory (Err (Memory e)) wanted = ⊤
-
--- a line's bytes were added
-pub record AddsLine (line old new : List ℕ) : Type 0 where
-  pub answer : Option ℕ
-  pub gives : Gives line answer
-  pub bytes_are : new ≡ old ++ answer_bytes answer
-
--- a line was refused: it is bad, or memory ran out
-abbrev pub IsRefusedAt : List ℕ → ℕ → AsmRefusal → Type 0
-IsRefusedAt line number (BadAsm n) = (n ≡ number) × IsBadLine line
-IsRefusedAt line number (Memory e) = ⊤

@@ -1,3 +1,4 @@
+-- Used by `image_of`, proofs and private functions alone.
 -- The instructions of each form of operands, and the one of them that has a name.
 use Rattle.std.specs.Prelude.{ℕ, ℤ, nat_eq, if◌then◌else◌, List, [], ◌∷◌, Option, Some, None}
 use Rattle.std.specs.Cmp.Lexicographic.{pointwise}

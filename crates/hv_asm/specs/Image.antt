@@ -13,7 +13,7 @@ use Rattle.hv_asm.specs.declared.operand.Operands.TheVariants.{Nothing, One, Two
 use Rattle.hv_asm.specs.Assembly.{answer_bytes}
 use Rattle.hv_asm.specs.Line.{words, without_comment}
 use Rattle.hv_asm.specs.Operand.{number_value, register_text, based_text}
-use Rattle.hv_asm.specs.Reading.{instruction_of}
+use Rattle.hv_asm.specs.Forms.{instruction_of}
 
 -- the register below a bound whose form is this text
 unfoldable pub register_below : ℕ → (ℕ → List ℕ) → List ℕ → Option ℕ

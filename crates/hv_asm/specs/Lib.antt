@@ -2,7 +2,9 @@
 pub mod Operand
 pub mod Syntax
 pub mod Line
-pub mod Candidates
-pub mod Reading
 pub mod Assembly
+pub mod Candidates
+pub mod Forms
 pub mod Image
+pub mod Reading
+pub mod Adding

@@ -15,7 +15,8 @@ abbrev pub within_word : Result ℕ NumberRefusal → Option ℕ
 within_word (Ok n) = if nat_lt n (2 ^ 32) then Some n else None
 within_word (Err e) = None
 
--- the value of a number: decimal digits, perhaps behind a `-`, or `0x` and hexadecimal digits of either case
+-- the value of a number: decimal digits, perhaps behind a `-`, or `0x` and hexadecimal digits of either case;
+-- `-0` is 0, also where an operand holds no negative number
 abbrev pub number_value : List ℕ → Option ℤ
 number_value text =
     if starts_with nat_eq text (codes "-0x") then None else (

@@ -1,7 +1,8 @@
 //! The bytes that a text assembles to.
 ghost use Rattle.std.specs.Prelude.{◌≡◌, ◌++◌, ℕ, List, Ok, Err, IfErr, OnOk};
 ghost use Rattle.byteorder.specs.Endian.{little_bytes};
-ghost use Rattle.hv_asm.specs.Assembly.{IsAssembled, HasBadLine, Says, IsUnlessMemory, AddsLine, IsRefusedAt};
+ghost use Rattle.hv_asm.specs.Assembly.{IsAssembled, HasBadLine, Says, IsUnlessMemory};
+ghost use Rattle.hv_asm.specs.Adding.{AddsLine, IsRefusedAt};
 
 use crate::line::read_asm;
 use crate::refusal::AsmRefusal;

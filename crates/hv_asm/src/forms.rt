@@ -1,6 +1,6 @@
 //! The instruction of a name and operands.
 ghost use Rattle.std.specs.Prelude.{◌≡◌};
-ghost use Rattle.hv_asm.specs.Reading.{is_within, is_even_within, of_registers, of_immediate, of_branch, of_long_shift, of_short_shift, of_number, of_load, of_store, of_jump, of_upper, of_csr_register, of_csr_immediate, of_fence, instruction_of};
+ghost use Rattle.hv_asm.specs.Forms.{is_within, is_even_within, of_registers, of_immediate, of_branch, of_long_shift, of_short_shift, of_number, of_load, of_store, of_jump, of_upper, of_csr_register, of_csr_immediate, of_fence, instruction_of};
 
 use crate::find::find;
 use crate::operand::{Operand, Operands};
@@ -238,7 +238,7 @@ fn of_fence(name: &[u8], value: i64, rs1: u8, rd: u8) -> Option<Inst>
     }
 }
 
-#[tactic(auto, unfolding(crate::specs::Reading::instruction_of))]
+#[tactic(auto, unfolding(crate::specs::Forms::instruction_of))]
 fn of_two(name: &[u8], one: Operand, two: Operand) -> Option<Inst>
     ensures { result ≡ instruction_of name.now (Operands.Two one two) }
 {
@@ -259,7 +259,7 @@ fn of_two(name: &[u8], one: Operand, two: Operand) -> Option<Inst>
     }
 }
 
-#[tactic(auto, unfolding(crate::specs::Reading::instruction_of))]
+#[tactic(auto, unfolding(crate::specs::Forms::instruction_of))]
 fn of_three(name: &[u8], one: Operand, two: Operand, three: Operand) -> Option<Inst>
     ensures { result ≡ instruction_of name.now (Operands.Three one two three) }
 {
@@ -284,7 +284,7 @@ fn of_three(name: &[u8], one: Operand, two: Operand, three: Operand) -> Option<I
 }
 
 /// The instruction of a name and operands, where each operand fits its field.
-#[tactic(auto, unfolding(crate::specs::Reading::instruction_of))]
+#[tactic(auto, unfolding(crate::specs::Forms::instruction_of))]
 pub(crate) fn instruction(name: &[u8], operands: Operands) -> Option<Inst>
     ensures { result ≡ instruction_of name.now operands }
 {
