@@ -1,11 +1,13 @@
-//! What an instruction does to the context of a hart.
+//! What an instruction does to the context of a hart, and the numbers by which instruction words name it.
 #![tactic(auto)]
 
 mod alu;
 pub mod causes;
 mod context;
+pub mod functs;
 mod inst;
 mod multiply;
+pub mod opcodes;
 mod operation;
 mod perform;
 mod result;

@@ -5,8 +5,8 @@ use Rattle.std.specs.Prelude.{if◌then◌else◌}
 use Rattle.std.proofs.lemmas.Bool.Decides.{nat_tests}
 use Rattle.hv_exec.specs.Numbers.{modulo, signed}
 use Rattle.hv_exec.specs.declared.inst.Inst.{Inst}
-use Rattle.hv_isa.specs.declared.functs.TheConstants.{ADD, ALTERNATE, AND, ARITHMETIC, BASE, BEQ, BGE, BGEU, BLT, BLTU, BNE, CSRRC, CSRRCI, CSRRS, CSRRSI, CSRRW, CSRRWI, DIV, DIVU, FENCE, FENCE_I, JALR_FUNCT3, LB, LBU, LD, LH, LHU, LOGICAL, LW, LWU, MUL, MULDIV, MULH, MULHSU, MULHU, OR, REM, REMU, SB, SD, SH, SLL, SLT, SLTU, SRA, SRL, SUB, SW, XOR}
-use Rattle.hv_isa.specs.declared.opcodes.TheConstants.{AUIPC, BRANCH, EBREAK, ECALL, JAL, JALR, LOAD, LUI, MISC_MEM, MRET, OP, OP_32, OP_IMM, OP_IMM_32, STORE, SYSTEM, WFI}
+use Rattle.hv_exec.specs.declared.functs.TheConstants.{ADD, ALTERNATE, AND, ARITHMETIC, BASE, BEQ, BGE, BGEU, BLT, BLTU, BNE, CSRRC, CSRRCI, CSRRS, CSRRSI, CSRRW, CSRRWI, DIV, DIVU, FENCE, FENCE_I, JALR_FUNCT3, LB, LBU, LD, LH, LHU, LOGICAL, LW, LWU, MUL, MULDIV, MULH, MULHSU, MULHU, OR, REM, REMU, SB, SD, SH, SLL, SLT, SLTU, SRA, SRL, SUB, SW, XOR}
+use Rattle.hv_exec.specs.declared.opcodes.TheConstants.{AUIPC, BRANCH, EBREAK, ECALL, JAL, JALR, LOAD, LUI, MISC_MEM, MRET, OP, OP_32, OP_IMM, OP_IMM_32, STORE, SYSTEM, WFI}
 use Rattle.hv_isa.specs.Encoding.{r_form, long_form, field_form, i_form, u_form, s_sum, s_form, b_sum, b_form, j_sum, j_form, encoded}
 use Rattle.hv_isa.specs.Formats.{bits, rd, rs1, rs2, i_immediate, s_immediate, b_immediate, j_immediate}
 use Rattle.hv_isa.specs.Table.{Fixed, Row, Group, funct3, funct6, funct7, whole, groups, fits, by_rows, rows_of, decoded, lui_rows, auipc_rows, jal_rows, jalr_rows, branch_rows, load_rows, store_rows, immediate_rows, immediate_word_rows, register_rows, register_word_rows, fence_rows, system_rows}

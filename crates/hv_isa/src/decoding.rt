@@ -8,17 +8,17 @@ use crate::fields::{
     b_immediate, funct3, funct6, funct7, i_immediate, j_immediate, long_amount, rd, rs1, rs2,
     s_immediate, upper_field, upper_immediate,
 };
-use crate::functs::{
+use hv_exec::Inst;
+use hv_exec::functs::{
     ADD, ALTERNATE, AND, ARITHMETIC, BASE, BEQ, BGE, BGEU, BLT, BLTU, BNE, CSRRC, CSRRCI, CSRRS,
     CSRRSI, CSRRW, CSRRWI, DIV, DIVU, FENCE, FENCE_I, JALR_FUNCT3, LB, LBU, LD, LH, LHU, LOGICAL,
     LW, LWU, MUL, MULDIV, MULH, MULHSU, MULHU, OR, REM, REMU, SB, SD, SH, SLL, SLT, SLTU, SRA, SRL,
     SUB, SW, XOR,
 };
-use crate::opcodes::{
+use hv_exec::opcodes::{
     AUIPC, BRANCH, EBREAK, ECALL, JAL, JALR, LOAD, LUI, MISC_MEM, MRET, OP, OP_32, OP_IMM,
     OP_IMM_32, STORE, SYSTEM, WFI,
 };
-use hv_exec::Inst;
 
 // The bits above the opcode of each word that has no operands.
 const ECALL_HEAD: u32 = ECALL >> 7;

@@ -4,18 +4,18 @@ ghost use Rattle.std.specs.Prelude.{◌≡◌, ℕ, ◌+◌, ◌-◌, ◌*◌, �
 ghost use Rattle.hv_exec.specs.Fields.{IsWellFormed};
 ghost use Rattle.hv_isa.specs.Table.{decoded};
 
-use crate::functs::{
+use crate::packing::{b_word, field_word, i_word, j_word, r_word, s_word, shift_word, u_word};
+use hv_exec::Inst;
+use hv_exec::functs::{
     ADD, ALTERNATE, AND, ARITHMETIC, BASE, BEQ, BGE, BGEU, BLT, BLTU, BNE, CSRRC, CSRRCI, CSRRS,
     CSRRSI, CSRRW, CSRRWI, DIV, DIVU, FENCE, FENCE_I, JALR_FUNCT3, LB, LBU, LD, LH, LHU, LOGICAL,
     LW, LWU, MUL, MULDIV, MULH, MULHSU, MULHU, OR, REM, REMU, SB, SD, SH, SLL, SLT, SLTU, SRA, SRL,
     SUB, SW, XOR,
 };
-use crate::opcodes::{
+use hv_exec::opcodes::{
     AUIPC, BRANCH, EBREAK, ECALL, JAL, JALR, LOAD, LUI, MISC_MEM, MRET, OP, OP_32, OP_IMM,
     OP_IMM_32, STORE, SYSTEM, WFI,
 };
-use crate::packing::{b_word, field_word, i_word, j_word, r_word, s_word, shift_word, u_word};
-use hv_exec::Inst;
 
 /// The one word that is this instruction.
 pub fn encode(inst: Inst) -> u32

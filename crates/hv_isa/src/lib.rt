@@ -4,8 +4,6 @@
 mod decoding;
 mod encoding;
 mod fields;
-pub mod functs;
-pub mod opcodes;
 mod packing;
 #[cfg(test)]
 mod tests;

@@ -8,8 +8,8 @@ use Rattle.hv_exec.specs.declared.context.After.TheVariants.{Done, Load, Store, 
 use Rattle.hv_exec.specs.declared.context.Ctx.{Ctx}
 use Rattle.hv_exec.specs.declared.inst.Inst.{Inst}
 use Rattle.hv_exec.specs.declared.inst.Inst.TheVariants.{Mret, Csrrw, Csrrs, Csrrc, Csrrwi, Csrrsi, Csrrci}
-use Rattle.hv_isa.specs.declared.functs.TheConstants.{CSRRC, CSRRCI, CSRRS, CSRRSI, CSRRW, CSRRWI}
-use Rattle.hv_isa.specs.declared.opcodes.TheConstants.{SYSTEM}
+use Rattle.hv_exec.specs.declared.functs.TheConstants.{CSRRC, CSRRCI, CSRRS, CSRRSI, CSRRW, CSRRWI}
+use Rattle.hv_exec.specs.declared.opcodes.TheConstants.{SYSTEM}
 use Rattle.hv_trap.specs.Csr.{is_set, is_enabled, was_enabled, status, csr_of, read, written, is_read_only}
 use Rattle.hv_trap.specs.declared.csr.Change.{Change}
 use Rattle.hv_trap.specs.declared.csr.Change.TheVariants.{Keep, Replace, Set, Clear}

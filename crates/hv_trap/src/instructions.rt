@@ -10,9 +10,9 @@ ghost use Rattle.hv_trap.specs.Trap.{accessed, changed, csr_word, IsOver, system
 use crate::csr::{Change, Csr, csr_of, is_read_only, read, write};
 use crate::entry::return_from_trap;
 use hv_exec::causes::ILLEGAL_INSTRUCTION;
+use hv_exec::functs::{CSRRC, CSRRCI, CSRRS, CSRRSI, CSRRW, CSRRWI};
+use hv_exec::opcodes::SYSTEM;
 use hv_exec::{After, Ctx, Inst};
-use hv_isa::functs::{CSRRC, CSRRCI, CSRRS, CSRRSI, CSRRW, CSRRWI};
-use hv_isa::opcodes::SYSTEM;
 
 /// Carries out a CSR instruction or MRET. An illegal one traps with its word.
 #[tactic(auto, unfolding(crate::specs::Trap::system_meaning, hv_exec::specs::Fields::IsWellFormed, hv_exec::specs::Operation::operation_of))]
