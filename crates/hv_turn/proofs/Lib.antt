@@ -1,0 +1,4 @@
+pub mod HistoryLemmas
+pub mod PassLemmas
+pub mod RuleLemmas
+pub mod SeatLemmas
