@@ -5,10 +5,10 @@ use Rattle.std.specs.Option.{option_and_then, option_map_or}
 use Rattle.std.specs.Cmp.Lexicographic.{pointwise}
 use Rattle.hv_dtree.specs.declared.node.Node.{Node}
 use Rattle.hv_dtree.specs.Nodes.{name_of, children_of, child_named, node_at}
-use Rattle.hv_plan.specs.declared.guest.GuestPlan.{GuestPlan}
+use Rattle.hv_region.specs.declared.plan.GuestPlan.{GuestPlan}
 use Rattle.hv_plan.specs.Settings.{guests_of}
 use Rattle.hv_plan.specs.Guests.{guest_node}
-use Rattle.hv_host.specs.declared.board.Fault.{Fault}
+use Rattle.hv_region.specs.declared.fault.Fault.{Fault}
 use Rattle.hv_host.specs.Boards.{IsPlanned, ArePlanned}
 
 -- one guest more

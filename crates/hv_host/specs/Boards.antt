@@ -2,12 +2,12 @@
 use Rattle.std.specs.Prelude.{◌≡◌, ℕ, List, [], ◌∷◌, Option, Some, None, Result, Ok, Err}
 use Rattle.hv_dtree.specs.declared.node.Node.{Node}
 use Rattle.hv_dts.specs.Reading.{IsSourceOf, IsRefusedAt}
-use Rattle.hv_plan.specs.declared.guest.GuestPlan.{GuestPlan}
+use Rattle.hv_region.specs.declared.plan.GuestPlan.{GuestPlan}
 use Rattle.hv_plan.specs.Properties.{first_of}
 use Rattle.hv_plan.specs.Settings.{IsHost, limits_passed, host_faults}
 use Rattle.hv_plan.specs.Guests.{IsPlan, faults_of, guest_node}
 use Rattle.hv_host.specs.declared.board.Board.{Board}
-use Rattle.hv_host.specs.declared.board.Fault.{Fault}
+use Rattle.hv_region.specs.declared.fault.Fault.{Fault}
 use Rattle.hv_host.specs.declared.refusal.BoardRefusal.{BoardRefusal}
 use Rattle.hv_host.specs.declared.refusal.BoardRefusal.TheVariants.{BadTree, Limit, BadHost, Memory}
 

@@ -1,14 +1,6 @@
 //! A host with its guests.
-use hv_plan::{Cause, GuestPlan, Host};
-use hv_text::Bytes;
-
-/// The first thing that is wrong with a guest.
-#[derive(Debug, Drop)]
-pub struct Fault {
-    /// The path of the faulty node.
-    pub path: Bytes,
-    pub cause: Cause,
-}
+use hv_plan::Host;
+use hv_region::{Fault, GuestPlan};
 
 /// What a host tree says.
 #[derive(Debug, Drop)]

@@ -9,7 +9,8 @@ mod law;
 mod read;
 mod refusal;
 
-pub use board::{Board, Fault};
+pub use board::Board;
+pub use hv_region::Fault;
 pub use law::host_trees_are_unambiguous;
 pub use read::read_board;
 pub use refusal::BoardRefusal;

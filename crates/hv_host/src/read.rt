@@ -6,11 +6,12 @@ ghost use Rattle.hv_plan.specs.Settings.{IsHost};
 ghost use Rattle.hv_host.specs.Boards.{IsPlanned, ArePlanned, IsBare, SaysBoard, Says};
 ghost use Rattle.hv_dts.specs.Reading.{IsSourceOf};
 
-use crate::board::{Board, Fault};
+use crate::board::Board;
 use crate::refusal::BoardRefusal;
 use hv_dtree::Tree;
 use hv_dts::{DtsRefusal, read_dts};
-use hv_plan::{GuestPlan, Host, HostRefusal, PlanRefusal, host_settings, plan_guest};
+use hv_plan::{Host, HostRefusal, PlanRefusal, host_settings, plan_guest};
+use hv_region::{Fault, GuestPlan};
 use hv_text::Bytes;
 use std::alloc::{AllocError, Global};
 

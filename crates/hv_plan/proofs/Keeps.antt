@@ -20,7 +20,7 @@ use Rattle.hv_plan.specs.Rules.{KeepsRules, LiesInArea, LieApart, Share, IsTarge
 use Rattle.hv_region.specs.declared.plan.Form.{Form}
 use Rattle.hv_region.specs.declared.plan.Form.TheVariants.{Ram, Rom, Device, Real, Alias}
 use Rattle.hv_plan.specs.Guests.{Plans, IsPlan, faults_of, own_faults, vcpu_faults, region_faults, link_faults, window_faults, alias_faults, guest_causes, vcpus_of, regions_of, aspace_of, plans_of, in_vcpus, in_regions}
-use Rattle.hv_plan.specs.declared.guest.GuestPlan.{GuestPlan}
+use Rattle.hv_region.specs.declared.plan.GuestPlan.{GuestPlan}
 use Rattle.hv_plan.specs.declared.refusal.PlanRefusal.{PlanRefusal}
 use Rattle.hv_plan.specs.declared.refusal.PlanRefusal.TheVariants.{NoGuest, BadNode, Memory}
 use Rattle.hv_plan.proofs.RuleLemmas.{no_parts, no_map, not_when, no_causes, good_vcpu, good_region, good_area, all_rows, neither}

@@ -10,7 +10,7 @@ use Rattle.hv_plan.specs.Vcpus.{when, vcpu_causes, vcpu_plan}
 use Rattle.hv_plan.specs.Regions.{region_causes}
 use Rattle.hv_plan.specs.Links.{link_causes, region_plans}
 use Rattle.hv_plan.specs.Windows.{overlap_causes, alias_causes}
-use Rattle.hv_plan.specs.declared.guest.GuestPlan.{GuestPlan}
+use Rattle.hv_region.specs.declared.plan.GuestPlan.{GuestPlan}
 use Rattle.hv_kinds.specs.declared.cause.Cause.{Cause}
 use Rattle.hv_kinds.specs.declared.cause.Cause.TheVariants.{Missing, TooMany}
 use Rattle.hv_plan.specs.declared.refusal.PlanRefusal.{PlanRefusal}

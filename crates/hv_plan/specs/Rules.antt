@@ -7,7 +7,7 @@ use Rattle.hv_region.specs.declared.plan.Form.{Form}
 use Rattle.hv_region.specs.declared.plan.Form.TheVariants.{Real, Alias}
 use Rattle.hv_region.specs.declared.plan.RegionPlan.{RegionPlan}
 use Rattle.hv_plan.specs.Windows.{is_alias}
-use Rattle.hv_plan.specs.declared.guest.GuestPlan.{GuestPlan}
+use Rattle.hv_region.specs.declared.plan.GuestPlan.{GuestPlan}
 use Rattle.hv_plan.specs.declared.host.Host.{Host}
 
 -- an area is there and has so many bytes

@@ -20,17 +20,9 @@ use crate::vcpu::read_vcpu;
 use crate::windows::{alias_cause, overlap_cause};
 use hv_dtree::{Node, Tree};
 use hv_kinds::Cause;
-use hv_region::{RegionPlan, VcpuPlan};
+use hv_region::{GuestPlan, RegionPlan, VcpuPlan};
 use hv_text::Bytes;
 use std::alloc::Global;
-
-/// What a guest is made of.
-#[derive(Debug, Drop)]
-pub struct GuestPlan {
-    pub name: Bytes,
-    pub vcpus: Vec<VcpuPlan>,
-    pub regions: Vec<RegionPlan>,
-}
 
 /// What is wrong with the numbers of VCPUs and regions.
 fn count_cause(vcpus: &[Node], regions: &[Node]) -> Option<Cause>

@@ -21,7 +21,8 @@ mod tests;
 mod vcpu;
 mod windows;
 
-pub use guest::{GuestPlan, plan_guest};
+pub use guest::plan_guest;
 pub use host::{Host, host_settings};
 pub use hv_kinds::Cause;
+pub use hv_region::GuestPlan;
 pub use refusal::{HostRefusal, PlanRefusal};

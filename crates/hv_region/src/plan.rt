@@ -1,4 +1,4 @@
-//! Plans of VCPUs and regions.
+//! Plans of guests, of their VCPUs and of their regions.
 
 use hv_kinds::AddressType;
 use hv_text::{Bytes, Strings};
@@ -37,4 +37,12 @@ pub struct RegionPlan {
     pub clock: bool,
     /// The row of the region that takes its interrupts, and the source there.
     pub parent: Option<(u8, u8)>,
+}
+
+/// What a guest is made of.
+#[derive(Debug, Drop)]
+pub struct GuestPlan {
+    pub name: Bytes,
+    pub vcpus: Vec<VcpuPlan>,
+    pub regions: Vec<RegionPlan>,
 }

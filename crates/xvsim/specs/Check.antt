@@ -6,11 +6,11 @@ use Rattle.std.specs.Io.KnownBytes.{Appends, IsAtEnd}
 use Rattle.hv_base.specs.Writing.{AppendsFront}
 use Rattle.hv_text.specs.Path.{path_text}
 use Rattle.hv_bundle.specs.declared.file.File.{File}
-use Rattle.hv_plan.specs.declared.guest.GuestPlan.{GuestPlan}
+use Rattle.hv_region.specs.declared.plan.GuestPlan.{GuestPlan}
 use Rattle.hv_plan.specs.declared.host.Host.{Host}
 use Rattle.hv_kinds.specs.Cause.{cause_word}
 use Rattle.hv_host.specs.declared.board.Board.{Board}
-use Rattle.hv_host.specs.declared.board.Fault.{Fault}
+use Rattle.hv_region.specs.declared.fault.Fault.{Fault}
 use Rattle.hv_model.specs.Report.{line}
 use Rattle.xvsim.specs.Opening.{HaveBoard}
 use Rattle.xvsim.specs.Limits.{IsInput, AreWithinLimits}

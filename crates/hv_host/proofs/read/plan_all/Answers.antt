@@ -2,10 +2,10 @@ use Rattle.std.proofs.Common.{◌≡◌, ◌<◌, ◌+◌, ◌++◌, ◌∷◌, 
 use Rattle.std.proofs.Math.Seq.{take-suc}
 use Rattle.std.proofs.lemmas.List.{get_or_default}
 use Rattle.hv_dtree.specs.Nodes.{name_of}
-use Rattle.hv_plan.specs.declared.guest.GuestPlan.{GuestPlan}
+use Rattle.hv_region.specs.declared.plan.GuestPlan.{GuestPlan}
 use Rattle.hv_plan.specs.Settings.{guests_of}
 use Rattle.hv_plan.specs.Guests.{guest_node}
-use Rattle.hv_host.specs.declared.board.Fault.{Fault}
+use Rattle.hv_region.specs.declared.fault.Fault.{Fault}
 use Rattle.hv_host.specs.Boards.{IsPlanned, ArePlanned}
 use Rattle.hv_host.proofs.Guests.{planned-more, guest-there}
 use Rattle.hv_host.proofs.read.plan_all.Goals as goal
