@@ -4,6 +4,7 @@ use Rattle.std.specs.List.{All}
 use Rattle.std.specs.Prelude.{IsTrue}
 use Rattle.std.proofs.lemmas.Bool.{false≢true}
 use Rattle.std.proofs.lemmas.List.Elements.{All-head, All-tail, All-take, All-push, All-weaker}
+use Rattle.hv_text.specs.declared.limits.TheConstants.{VCPUS}
 use Rattle.hv_queue.specs.Queue.{IsEntry, IsQueue, of_vcpu, count_in, without}
 use Rattle.hv_queue.specs.declared.entry.QueueEntry.{QueueEntry}
 use Rattle.hv_queue.proofs.Weights.{weigh-append, weigh-without, weigh-take, all-without}
@@ -55,8 +56,8 @@ counted n (e ∷ es) all =
 few : (n : ℕ) (q : List QueueEntry) → All (λ e. e.vcpu < n) q → ((v : ℕ) → count_in v q ≤ 1) → length q ≤ n
 few n q all once = let counts = counted n q all in let most = sum-most n (λ v. count_in v q) once in omega arith
 
-pub at-most-all : (q : List QueueEntry) → IsQueue q → length q ≤ 33
-at-most-all q is = few 33 q (All-weaker IsEntry (λ (e : QueueEntry). e.vcpu < 33) (λ e entry. entry.vcpu) q is.each) is.once
+pub at-most-all : (q : List QueueEntry) → IsQueue q → length q ≤ VCPUS
+at-most-all q is = few VCPUS q (All-weaker IsEntry (λ (e : QueueEntry). e.vcpu < VCPUS) (λ e entry. entry.vcpu) q is.each) is.once
 
 -- a queue stays one without a VCPU, without its last entries, and with an entry more of a VCPU that has none
 pub kept-without : (v : ℕ) (q : List QueueEntry) → IsQueue q → IsQueue (without v q)
@@ -90,7 +91,7 @@ kept-append q e is entry none = record {
 }
 
 -- a VCPU that has no entry finds room
-pub room : (q : List QueueEntry) (e : QueueEntry) → IsQueue q → IsEntry e → count_in e.vcpu q ≡ 0 → length q < 33
+pub room : (q : List QueueEntry) (e : QueueEntry) → IsQueue q → IsEntry e → count_in e.vcpu q ≡ 0 → length q < VCPUS
 room q e is entry none = let all = at-most-all (q ++ e ∷ []) (kept-append q e is entry none) in omega (arith, length-append q (e ∷ []))
 
 -- what a test that passes chooses

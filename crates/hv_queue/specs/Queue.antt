@@ -1,5 +1,6 @@
 -- The queue of the VCPUs that are ready on a hart: entries in order of arrival.
 use Rattle.std.specs.Prelude.{ℕ, ◌+◌, ◌<◌, ◌≤◌, ◌==◌, nat_lt, if◌then◌else◌, List, [], ◌∷◌, ◌++◌, All, Option, Some, None}
+use Rattle.hv_text.specs.declared.limits.TheConstants.{VCPUS}
 use Rattle.hv_queue.specs.declared.entry.QueueEntry.{QueueEntry}
 
 -- What the entries of a queue weigh together, each by a weight of its own.
@@ -15,9 +16,9 @@ of_vcpu v e = if v == e.vcpu then 1 else 0
 abbrev pub count_in : ℕ → List QueueEntry → ℕ
 count_in v q = weigh (of_vcpu v) q
 
--- An entry is of one of 33 VCPUs and has one of 8 priorities.
+-- An entry is of one of the board's VCPUs and has one of 8 priorities.
 pub record IsEntry (e : QueueEntry) : Type 0 where
-  pub vcpu : e.vcpu < 33
+  pub vcpu : e.vcpu < VCPUS
   pub priority : e.priority < 8
 
 -- Each VCPU stands in a queue at most once.

@@ -17,13 +17,14 @@ pub struct Queue {
 impl Model for Queue {
     ghost use Rattle.std.specs.Prelude.{◌≤◌, List, vec_capacity};
     ghost use Rattle.hv_queue.specs.declared.entry.QueueEntry.{QueueEntry};
+    ghost use Rattle.hv_text.specs.declared.limits.TheConstants.{VCPUS};
     ghost use Rattle.hv_queue.specs.Queue.{IsQueue};
 
     ghost Value = { List QueueEntry };
 
     ghost view = { λ queue. queue.entries.items };
 
-    ghost invariant = { λ queue. IsQueue queue.entries.items × (33 ≤ vec_capacity queue.entries) };
+    ghost invariant = { λ queue. IsQueue queue.entries.items × (VCPUS ≤ vec_capacity queue.entries) };
 }
 
 impl Queue {
@@ -36,7 +37,7 @@ impl Queue {
         })
     }
 
-    /// How many VCPUs stand in it, 0 to 33.
+    /// How many VCPUs stand in it; each of the board's stands there at most once.
     pub fn len(&self) -> usize
         ensures length { result ≡ length self.now }
         ensures rules { IsQueue self.now }
@@ -46,7 +47,7 @@ impl Queue {
 
     /// Puts a VCPU at the end, and takes out the entry that it has there.
     pub fn push(&mut self, vcpu: u8, priority: u8)
-        requires vcpu { vcpu < 33 }
+        requires vcpu { vcpu < VCPUS }
         requires priority { priority < 8 }
         ensures { self.new ≡ appended (record { vcpu = vcpu; priority = priority }) self.old }
     {
