@@ -12,6 +12,7 @@ use Rattle.hv_kinds.specs.declared.state.State.{State}
 use Rattle.hv_kinds.specs.declared.state.State.TheVariants.{Unknown, Ready, Paused}
 use Rattle.hv_region.specs.Plans.{IsVcpuPlan}
 use Rattle.hv_region.specs.declared.plan.VcpuPlan.{VcpuPlan}
+use Rattle.hv_text.specs.declared.limits.TheConstants.{GUEST_REGIONS, GUEST_VCPUS}
 use Rattle.hv_trap.specs.Trap.{trapped}
 use Rattle.hv_vcpu.specs.Instruction.{carried_out, IsCarriedOut}
 use Rattle.hv_vcpu.specs.Table.{led, is_waiting}
@@ -62,14 +63,14 @@ unknown = record {
   index = 0;
   plan = record { start = 0; priority = 0; slice = 1 };
   context = started 0 0 no_pins;
-  pins = replicate 16 no_pins;
+  pins = replicate GUEST_REGIONS no_pins;
 }
 
--- What holds of each VCPU: its plan keeps its rules, and its context has the pins of all 16 regions, joined.
+-- What holds of each VCPU: its plan keeps its rules, and its context has the pins that all regions of its guest drive, joined.
 pub record IsVcpu (v : VcpuValue) : Type 0 where
-  pub index : v.index < 4
+  pub index : v.index < GUEST_VCPUS
   pub plan : IsVcpuPlan v.plan
-  pub rows : length v.pins ≡ 16
+  pub rows : length v.pins ≡ GUEST_REGIONS
   pub joined : v.context.pins ≡ joined v.pins
 
 -- What only a VCPU of a guest has.
@@ -83,9 +84,9 @@ birth_of v = unless_unknown v.state v.birth
 abbrev pub plan_of : VcpuValue → Option VcpuPlan
 plan_of v = unless_unknown v.state v.plan
 
--- A guest has at most 4 VCPUs, and each of them a plan that keeps its rules.
+-- A VCPU is added under a number that its guest can have, with a plan that keeps its rules.
 abbrev pub IsMove : Move → Type 0
-IsMove (move.Add birth index plan) = (index < 4) × IsVcpuPlan plan
+IsMove (move.Add birth index plan) = (index < GUEST_VCPUS) × IsVcpuPlan plan
 IsMove _ = ⊤
 
 -- The VCPU once a move has led it to a state: one that is added begins by its plan without pins, one that is reset
@@ -97,7 +98,7 @@ moved (move.Add birth index plan) s v = record {
   index = index;
   plan = plan;
   context = started plan.start index no_pins;
-  pins = replicate 16 no_pins;
+  pins = replicate GUEST_REGIONS no_pins;
 }
 moved move.Reset s v = record v { state = s; context = started v.plan.start v.index v.context.pins }
 moved move.Drop s v = unknown

@@ -170,7 +170,7 @@ impl Vcpu {
 
     /// Sets the pins that a region drives, and tells whether that woke the VCPU.
     pub fn set_pins(&mut self, row: u8, pins: Pins) -> bool
-        requires row { row < 16 }
+        requires { row < GUEST_REGIONS }
         ensures answer { result ≡ wakes (with_pins row pins self.old) }
         ensures after { self.new ≡ woken (with_pins row pins self.old) }
     {
