@@ -2,6 +2,7 @@
 use Rattle.std.specs.Prelude.{◌≡◌, ⊤, ℕ, ◌*◌, ◌%◌, ◌^◌, ◌<◌, ◌==◌, Bool, true, false, if◌then◌else◌, Option, Some, None}
 use Rattle.hv_exec.specs.Meaning.{Outcome, stays, meaning}
 use Rattle.hv_exec.specs.Operation.{IsSize}
+use Rattle.hv_exec.specs.declared.causes.TheConstants.{LOAD_ADDRESS_MISALIGNED, STORE_ADDRESS_MISALIGNED}
 use Rattle.hv_exec.specs.declared.context.After.{After}
 use Rattle.hv_exec.specs.declared.context.After.TheVariants.{Done, Load, Store, Trap, Wait, System}
 use Rattle.hv_exec.specs.declared.context.Ctx.{Ctx}
@@ -20,8 +21,8 @@ performed ctx inst = if is_system (meaning ctx inst).answer then system_meaning 
 
 -- An access at an address that is no multiple of its size is an exception, with the address: 4 of a load, 6 of a store.
 abbrev pub aligned : Outcome → After → Outcome
-aligned out (Load address size is_signed rd) = if address % size == 0 then out else stays out.context (Trap 4 address)
-aligned out (Store address size value) = if address % size == 0 then out else stays out.context (Trap 6 address)
+aligned out (Load address size is_signed rd) = if address % size == 0 then out else stays out.context (Trap LOAD_ADDRESS_MISALIGNED address)
+aligned out (Store address size value) = if address % size == 0 then out else stays out.context (Trap STORE_ADDRESS_MISALIGNED address)
 aligned out _ = out
 
 -- What a word does up to the entry of a trap; a word that is no instruction is illegal.

@@ -2,16 +2,10 @@
 ghost use Rattle.std.specs.Prelude.{◌≡◌, ℕ, ◌%◌};
 ghost use Rattle.hv_vcpu.specs.Instruction.{attempted, carried_out, entered, IsAttempted, IsCarriedOut};
 
+use hv_exec::causes::{ILLEGAL_INSTRUCTION, LOAD_ADDRESS_MISALIGNED, STORE_ADDRESS_MISALIGNED};
 use hv_exec::{After, Ctx, exec};
 use hv_isa::decode;
 use hv_trap::{system, trap};
-
-// The causes of exceptions (Privileged Architecture, table of mcause).
-const ILLEGAL_INSTRUCTION: u64 = 2;
-
-const LOAD_ADDRESS_MISALIGNED: u64 = 4;
-
-const STORE_ADDRESS_MISALIGNED: u64 = 6;
 
 /// Carries out the instruction that a word is. A trap is entered.
 pub(crate) fn carry_out(ctx: &mut Ctx, word: u32) -> After
