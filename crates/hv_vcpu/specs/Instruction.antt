@@ -39,7 +39,7 @@ entered (Trap cause value) ctx = trapped ctx cause value
 entered _ ctx = ctx
 
 -- What a word does.
-abbrev pub carried_out : Ctx → ℕ → Outcome
+unfoldable pub carried_out : Ctx → ℕ → Outcome
 carried_out ctx word = record { context = entered (attempted ctx word).answer (attempted ctx word).context; answer = (attempted ctx word).answer }
 
 -- An access leaves the context and has a size, an address that is a multiple of it, and a register or a value of that size.

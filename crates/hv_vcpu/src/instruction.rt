@@ -8,6 +8,7 @@ use hv_isa::decode;
 use hv_trap::{system, trap};
 
 /// Carries out the instruction that a word is. A trap is entered.
+#[tactic(auto, unfolding(crate::specs::Instruction::carried_out))]
 pub(crate) fn carry_out(ctx: &mut Ctx, word: u32) -> After
     ensures context { ctx.new ≡ (carried_out ctx.old word).context }
     ensures answer { result ≡ (carried_out ctx.old word).answer }

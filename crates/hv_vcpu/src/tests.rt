@@ -114,17 +114,12 @@ fn walks_the_table(rt: HostRuntime) -> Result<(), Fail> {
             let state = states[at];
             let mut vcpu = led_to(state);
             assert!(rt; vcpu.state() == state, "state {state:?}");
-            let answer = step(&mut vcpu, to);
-            match leads[at] {
-                Some(next) => {
-                    assert!(rt; answer == Ok(()), "{to:?} from {state:?}");
-                    assert!(rt; vcpu.state() == next, "{to:?} from {state:?}");
-                }
-                None => {
-                    assert!(rt; answer == Err(WrongState(state)), "{to:?} from {state:?}");
-                    assert!(rt; vcpu.state() == state, "{to:?} from {state:?}");
-                }
-            }
+            let (answer, next) = match leads[at] {
+                Some(next) => (Ok(()), next),
+                None => (Err(WrongState(state)), state),
+            };
+            assert!(rt; step(&mut vcpu, to) == answer, "{to:?} from {state:?}");
+            assert!(rt; vcpu.state() == next, "{to:?} from {state:?}");
         }
     }
     Ok(())
@@ -172,12 +167,9 @@ fn carries_out_a_program(rt: HostRuntime) -> Result<(), Fail> {
     assert!(rt; vcpu.state() == State::Paused(true));
     let ctx = vcpu.ctx();
     assert!(rt; ctx.pc == 0x8000_001c);
-    assert!(rt; ctx.x[5] == u64::MAX);
-    assert!(rt; ctx.x[6] == 1 << 63);
-    assert!(rt; ctx.x[7] == u64::MAX);
-    assert!(rt; ctx.x[8] == 0);
-    assert!(rt; ctx.x[9] == 1 << 63);
-    assert!(rt; ctx.x[10] == u64::MAX);
+    let least = 1 << 63;
+    let registers = [u64::MAX, least, u64::MAX, 0, least, u64::MAX];
+    assert!(rt; ctx.x[5..11] == registers[..]);
     assert!(rt; hv_trap::mstatus(ctx) == 0x1800);
     Ok(())
 }
