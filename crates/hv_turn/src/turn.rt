@@ -13,6 +13,7 @@ use std::alloc::{AllocError, Global};
 use std::marker::Model;
 use std::snapshot::Snapshot;
 use std::sync::Wait;
+use std::sync::atomic::{AtomicU64, Ordering};
 
 /// A history lock, which threads share.
 ///
@@ -21,6 +22,8 @@ use std::sync::Wait;
 pub struct Turn<T: Standing> {
     // The one word is 1 while a handle is inside, and the one slot has the value while none is.
     table: Table<Option<T>, SeatView<T::Entry>, Opening<T>, TurnRule<T>, Global>,
+    // How many threads wait, so that nobody is woken in vain.
+    waiting: AtomicU64,
 }
 
 impl<T: Standing> Model for Turn<T> {
@@ -110,7 +113,8 @@ impl<T: Standing> Turn<T> {
             return Err(AllocError);
         };
         let passes = deal(&table.shared, seat, passes, n);
-        Ok((Turn { table }, passes))
+        let waiting = AtomicU64::new(0);
+        Ok((Turn { table, waiting }, passes))
     }
 
     /// Acquires the lock, and waits while another handle is inside.
@@ -126,12 +130,20 @@ impl<T: Standing> Turn<T> {
                 let value = shared.exchange(&mut pass.seat, 0, None).unwrap();
                 return Held { value };
             }
-            shared.park(rt, 0, 1);
+            self.wait(rt);
         }
         unreachable!()
     }
 
-    /// Releases the lock, and wakes one thread that waits for it.
+    // Sleeps while a handle is inside. A thread is counted before it looks at the word, and whoever
+    // leaves clears the word before it looks at the count: so one that sleeps is seen.
+    fn wait<R: Wait>(&self, rt: &R) {
+        self.waiting.fetch_add(1, Ordering::SeqCst);
+        self.table.shared.park(rt, 0, 1);
+        self.waiting.fetch_sub(1, Ordering::SeqCst);
+    }
+
+    /// Releases the lock, and wakes one thread where some wait for it.
     pub fn leave(&self, pass: &mut Pass<T>, held: Held<T>)
         requires turn { pass.old.turn ≡ self.now.id }
         requires inside { pass.old.inside ≡ true }
@@ -142,7 +154,9 @@ impl<T: Standing> Turn<T> {
         let shared = &self.table.shared;
         drop(shared.exchange(&mut pass.seat, 0, Some(value)));
         shared.swap::<Release<T>>(&mut pass.seat, 0, 0);
-        shared.wake_one(0);
+        if self.waiting.load(Ordering::SeqCst) != 0 {
+            shared.wake_one(0);
+        }
     }
 
     /// The value, once all handles are back.
@@ -150,7 +164,7 @@ impl<T: Standing> Turn<T> {
         requires { AreGathered self passes.items }
         ensures { IsEnded T.names passes.items (T.entries result) }
     {
-        let Turn { table } = self;
+        let Turn { table, waiting: _ } = self;
         let Some(last) = passes.pop() else {
             unreachable!()
         };

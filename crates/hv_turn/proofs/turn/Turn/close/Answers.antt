@@ -1,4 +1,4 @@
-use Rattle.std.proofs.Common.{rules, ◌≡◌, ◌∷◌, [], Some, false, ap, ◌∙◌, sym, subst}
+use Rattle.std.proofs.Common.{rules, ◌≡◌, ◌∷◌, [], Some, false, ap, ◌∙◌, sym, subst, arith}
 use Rattle.std.specs.Option.{IsSome}
 use mathlib.Core.Option.{some-injective}
 use Rattle.hv_turn.specs.Passes.{PassView, TurnView, AreGathered, IsEnded}
@@ -7,6 +7,13 @@ use Rattle.hv_turn.proofs.RuleLemmas.{ends}
 use Rattle.hv_turn.proofs.SeatLemmas.{seat_when}
 use Rattle.hv_turn.proofs.PassLemmas.{gathered_outside, outside_at, outside_front, covers_snoc, numbers, ended, last_first}
 use Rattle.hv_turn.proofs.turn.Turn.close.Goals as goal
+
+pub gather-requires-clause-table : goal.gather-requires-clause-table
+gather-requires-clause-table g c =
+    let whole = gathered_outside c.args.self c.args.passes.items c.requires in
+    let last = outside_at c.args.self.id c.pop.new.self.items c.in-Some.last [] (subst (AreOutside c.args.self.id) c.in-Some.ensures.items whole) in
+    let one = c.self.invariant.0 in
+    (ap (λ (v : PassView g.row.T-Entry.Denot). v.turn) c.last.view_is ∙ (last.0 ∙ sym (ap (λ (v : TurnView). v.id) c.self.view_is)), omega arith)
 
 pub gather-requires-clause-outside : goal.gather-requires-clause-outside
 gather-requires-clause-outside g c =
