@@ -164,9 +164,9 @@ link_pair None source rows sources = tt
 link_pair (Some row) None rows sources = tt
 link_pair (Some row) (Some source) rows sources = let both = sources source refl in (rows row refl, both.0, both.1)
 
-link_phandle : (phandle : Option ℕ) (row : ℕ → Option ℕ) (source : Option ℕ) → ((p r : ℕ) → row p ≡ Some r → r < 16) → ((s : ℕ) → source ≡ Some s → (1 ≤ s) × (s ≤ 31)) → IsLink (option_and_then (λ p. option_and_then (λ r. option_map (λ s. (r, s)) source) (row p)) phandle)
-link_phandle None row source rows sources = tt
-link_phandle (Some phandle) row source rows sources = link_pair (row phandle) source (rows phandle) sources
+row_below : (phandle : Option ℕ) (row : ℕ → Option ℕ) → ((p r : ℕ) → row p ≡ Some r → r < 16) → (r : ℕ) → option_and_then row phandle ≡ Some r → r < 16
+row_below None row rows r is = absurd (cc is)
+row_below (Some phandle) row rows r is = rows phandle r is
 
 link_if : (test : Bool) (link : Option (ℕ × ℕ)) → IsLink link → IsLink (if test then link else None)
 link_if true link is = is
@@ -174,8 +174,11 @@ link_if false link is = tt
 
 pub is_link : (aspace : Option Node) (regions : List Node) (node : Node) → length regions ≤ 16 → IsLink (link_of aspace regions node)
 is_link aspace regions node few =
-    link_if (interrupts node) (option_and_then (λ p. option_and_then (λ r. option_map (λ s. (r, s)) (source_of node)) (position_from (has_phandle p) 0 regions)) (parent_phandle aspace node))
-    (link_phandle (parent_phandle aspace node) (λ p. position_from (has_phandle p) 0 regions) (source_of node) (λ p r is. let at = found_at (has_phandle p) 0 regions r is in omega (arith, at.2, at.3)) (source_by (cell_of node (codes "interrupts"))))
+    let row_at = λ (p : ℕ). position_from (has_phandle p) 0 regions in
+    let row = option_and_then row_at (parent_phandle aspace node) in
+    let rows = row_below (parent_phandle aspace node) row_at (λ p r is. let at = found_at (has_phandle p) 0 regions r is in omega (arith, at.2, at.3)) in
+    link_if (interrupts node) (option_and_then (λ r. option_map (λ s. (r, s)) (source_of node)) row)
+    (link_pair row (source_of node) rows (source_by (cell_of node (codes "interrupts"))))
 
 some_size : (kind : Option AddressType) (base size : Option ℕ) → is_range kind base size ≡ true → is_some size ≡ true
 some_size None base size is = absurd (false≢true is)
