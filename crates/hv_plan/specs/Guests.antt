@@ -2,6 +2,7 @@
 use Rattle.std.specs.Prelude.{◌≡◌, ℕ, Bool, ◌||◌, List, [], ◌∷◌, ◌++◌, length, map, nat_lt, codes, Option, Some, None, Result, Ok, Err}
 use Rattle.std.specs.List.{flat_map, enumerate_from}
 use Rattle.hv_text.specs.Path.{path_text}
+use Rattle.hv_text.specs.declared.limits.TheConstants.{GUEST_VCPUS, GUEST_REGIONS}
 use Rattle.hv_dtree.specs.Nodes.{node_at, child_named, children_of, name_of}
 use Rattle.hv_dtree.specs.declared.node.Node.{Node}
 use Rattle.hv_region.specs.declared.plan.RegionPlan.{RegionPlan}
@@ -38,7 +39,7 @@ is_empty nodes = nat_lt (length nodes) 1
 
 abbrev pub causes_of_count : List Node → List Node → List Cause
 causes_of_count vcpus regions =
-    when (is_empty vcpus || is_empty regions) Missing ++ when (nat_lt 4 (length vcpus) || nat_lt 16 (length regions)) TooMany
+    when (is_empty vcpus || is_empty regions) Missing ++ when (nat_lt GUEST_VCPUS (length vcpus) || nat_lt GUEST_REGIONS (length regions)) TooMany
 
 abbrev pub guest_causes : Node → List Cause
 guest_causes guest = causes_of_count (vcpus_of guest) (regions_of guest)

@@ -7,6 +7,7 @@ use Rattle.hv_kinds.specs.declared.address.AddressType.{AddressType}
 use Rattle.hv_kinds.specs.declared.address.AddressType.TheVariants.{Memory, Io}
 use Rattle.hv_dtree.specs.Nodes.{prop_value}
 use Rattle.hv_dtree.specs.declared.node.Node.{Node}
+use Rattle.hv_text.specs.declared.limits.TheConstants.{MOST_MEMORY}
 use Rattle.hv_region.specs.Addresses.{end_of}
 use Rattle.hv_region.specs.declared.plan.Form.{Form}
 use Rattle.hv_region.specs.declared.plan.Form.TheVariants as form
@@ -14,6 +15,7 @@ use Rattle.hv_plan.specs.Properties.{has, cell_of, number_of, number_or, text_of
 use Rattle.hv_plan.specs.Vcpus.{when}
 use Rattle.hv_kinds.specs.declared.cause.Cause.{Cause}
 use Rattle.hv_kinds.specs.declared.cause.Cause.TheVariants as cause
+use Rattle.hv_plan.specs.declared.region.TheConstants.{LAST_SOURCE}
 use Rattle.hv_plan.specs.declared.sort.Sort.{Sort}
 use Rattle.hv_plan.specs.declared.sort.Sort.TheVariants.{Ram, Rom, Device, Real, Alias}
 
@@ -88,9 +90,9 @@ required_by _ = []
 abbrev pub required : Option Sort → List (List ℕ)
 required sort = codes "manifest_type" ∷ codes "address_type" ∷ codes "guest_physical_addr" ∷ codes "physical_size" ∷ required_by sort
 
--- the source of a device's interrupts, which is a number from 1 to 31 in one cell
+-- the source of a device's interrupts, which is a number from 1 to the last one in one cell
 abbrev pub source_of : Node → Option ℕ
-source_of node = let source = cell_of node (codes "interrupts") in if is_within 1 31 source then source else None
+source_of node = let source = cell_of node (codes "interrupts") in if is_within 1 LAST_SOURCE source then source else None
 
 -- at least one address, and none behind those of the type
 abbrev pub is_range : Option AddressType → Option ℕ → Option ℕ → Bool
@@ -106,8 +108,8 @@ is_part None _ _ = false
 -- what a region of a sort is to keep
 abbrev pub keeps_sort : List (List ℕ × ℕ) → Node → Option Sort → Bool
 keeps_sort areas node None = true
-keeps_sort areas node (Some Ram) = is_within 1 16777216 (size_of node)
-keeps_sort areas node (Some Rom) = is_within 1 16777216 (size_of node)
+keeps_sort areas node (Some Ram) = is_within 1 MOST_MEMORY (size_of node)
+keeps_sort areas node (Some Rom) = is_within 1 MOST_MEMORY (size_of node)
 keeps_sort areas node (Some Device) = not (has node (codes "interrupts")) || is_some (source_of node)
 keeps_sort areas node (Some Real) = is_part (offset_of node) (size_of node) (area_len areas node)
 keeps_sort areas node (Some Alias) = is_some (alias_of node)

@@ -1,6 +1,7 @@
 -- What holds of each plan that is given.
 use Rattle.std.specs.Prelude.{◌≡◌, ℕ, ◌+◌, ◌<◌, ◌≤◌, false, List, length, All, slice_get, Option, Some, None}
 use Rattle.std.specs.List.{AllPairs, Any}
+use Rattle.hv_text.specs.declared.limits.TheConstants.{GUEST_VCPUS, GUEST_REGIONS, HARTS, MOST_AREAS, MOST_MEMORY}
 use Rattle.hv_kinds.specs.declared.address.AddressType.{AddressType}
 use Rattle.hv_region.specs.Plans.{IsVcpuPlan, IsRegionPlan}
 use Rattle.hv_region.specs.declared.plan.Form.{Form}
@@ -9,6 +10,7 @@ use Rattle.hv_region.specs.declared.plan.RegionPlan.{RegionPlan}
 use Rattle.hv_plan.specs.Windows.{is_alias}
 use Rattle.hv_region.specs.declared.plan.GuestPlan.{GuestPlan}
 use Rattle.hv_plan.specs.declared.host.Host.{Host}
+use Rattle.hv_plan.specs.declared.host.TheConstants.{MOST_GUESTS}
 
 -- an area is there and has so many bytes
 abbrev pub HasBytes : ℕ → Option (List ℕ × ℕ) → Type 0
@@ -43,28 +45,29 @@ abbrev pub HasTarget : List RegionPlan → RegionPlan → Form → Type 0
 HasTarget regions region (Alias base) = region.detached ≡ false → Any (IsTarget region.kind base region.size) regions
 HasTarget regions region _ = Unit {0}
 
--- a guest has 1 to 4 VCPUs and 1 to 16 regions that keep the rules, whose windows lie apart and whose aliases have targets
+-- a guest has VCPUs and regions, no more than allowed, that keep the rules, whose windows lie apart and whose aliases
+-- have targets
 pub record KeepsRules (areas : List (List ℕ × ℕ)) (plan : GuestPlan) : Type 0 where
   pub some_vcpus : 1 ≤ length plan.vcpus.items
-  pub few_vcpus : length plan.vcpus.items ≤ 4
+  pub few_vcpus : length plan.vcpus.items ≤ GUEST_VCPUS
   pub some_regions : 1 ≤ length plan.regions.items
-  pub few_regions : length plan.regions.items ≤ 16
+  pub few_regions : length plan.regions.items ≤ GUEST_REGIONS
   pub vcpus : All IsVcpuPlan plan.vcpus.items
   pub regions : All IsRegionPlan plan.regions.items
   pub in_areas : All (λ region. LiesInArea areas region.size region.form) plan.regions.items
   pub apart : AllPairs LieApart plan.regions.items
   pub targets : All (λ region. HasTarget plan.regions.items region region.form) plan.regions.items
 
--- an area has 1 to 16777216 bytes
+-- an area has bytes, no more than memory may have
 pub record IsAreaSize (size : ℕ) : Type 0 where
   pub least : 1 ≤ size
-  pub most : size ≤ 16777216
+  pub most : size ≤ MOST_MEMORY
 
 -- settings are in range, and there are no more areas and guests than allowed
 pub record KeepsHostRules (host : Host) : Type 0 where
   pub least_harts : 1 ≤ host.harts
-  pub most_harts : host.harts ≤ 8
+  pub most_harts : host.harts ≤ HARTS
   pub turns : host.turns ≤ 100000
-  pub few_areas : length host.areas.items ≤ 8
+  pub few_areas : length host.areas.items ≤ MOST_AREAS
   pub sizes : All (λ area. IsAreaSize area.1) host.areas.items
-  pub few_guests : length host.guests.items ≤ 32
+  pub few_guests : length host.guests.items ≤ MOST_GUESTS

@@ -2,6 +2,7 @@
 use Rattle.std.specs.Prelude.{◌≡◌, ℕ, ◌+◌, Bool, ◌&&◌, not, List, [], ◌∷◌, ◌++◌, length, map, filter, max, nat_le, if◌then◌else◌, codes, unwrap_or, Option, Some, Result, Ok, Err}
 use Rattle.std.specs.Option.{option_and_then, option_map_or}
 use Rattle.hv_text.specs.Path.{path_text}
+use Rattle.hv_text.specs.declared.limits.TheConstants.{HARTS, MOST_AREAS, MOST_MEMORY}
 use Rattle.hv_kinds.specs.declared.limit.LimitName.{LimitName}
 use Rattle.hv_kinds.specs.declared.limit.LimitName.TheVariants.{Nest, Areas, Guests}
 use Rattle.hv_dtree.specs.Nodes.{prop_value, child_named, children_of, name_of}
@@ -9,6 +10,7 @@ use Rattle.hv_dtree.specs.declared.node.Node.{Node}
 use Rattle.hv_dtree.specs.declared.node.Node.TheFolds.{fold-Node}
 use Rattle.hv_plan.specs.Properties.{cell_in, number_of, is_within, nodes_in, first_of}
 use Rattle.hv_plan.specs.declared.host.Host.{Host}
+use Rattle.hv_plan.specs.declared.host.TheConstants.{MOST_NEST, MOST_GUESTS}
 use Rattle.hv_plan.specs.declared.refusal.HostRefusal.{HostRefusal}
 use Rattle.hv_plan.specs.declared.refusal.HostRefusal.TheVariants.{BadHost, Limit, Memory}
 
@@ -36,10 +38,10 @@ area_size node = number_of node (codes "size")
 
 -- what is to be true of the settings, and of an area
 abbrev pub is_machine : Node → Bool
-is_machine root = is_within 1 8 (harts_of root) && is_within 0 100000 (turns_of root)
+is_machine root = is_within 1 HARTS (harts_of root) && is_within 0 100000 (turns_of root)
 
 abbrev pub is_area : Node → Bool
-is_area node = is_within 1 16777216 (area_size node)
+is_area node = is_within 1 MOST_MEMORY (area_size node)
 
 -- the paths of the faulty nodes, in the order in which they are told
 abbrev pub machine_faults : Node → List (List ℕ)
@@ -69,7 +71,8 @@ over name most number = if nat_le number most then [] else (name, number) ∷ []
 
 -- the limits that are passed, in their order, with what was counted
 abbrev pub passed : ℕ → ℕ → ℕ → List (LimitName × ℕ)
-passed nest areas guests = over Nest 32 nest ++ (over Areas 8 areas ++ over Guests 32 guests)
+passed nest areas guests =
+    over Nest MOST_NEST nest ++ (over Areas MOST_AREAS areas ++ over Guests MOST_GUESTS guests)
 
 abbrev pub limits_passed : Node → List (LimitName × ℕ)
 limits_passed root = passed (nest_of root) (length (areas_of root)) (length (guests_of root))

@@ -21,7 +21,7 @@ use crate::windows::{alias_cause, overlap_cause};
 use hv_dtree::{Node, Tree};
 use hv_kinds::Cause;
 use hv_region::{GuestPlan, RegionPlan, VcpuPlan};
-use hv_text::Bytes;
+use hv_text::{Bytes, GUEST_REGIONS, GUEST_VCPUS, MOST_AREAS};
 use std::alloc::Global;
 
 /// What is wrong with the numbers of VCPUs and regions.
@@ -31,7 +31,7 @@ fn count_cause(vcpus: &[Node], regions: &[Node]) -> Option<Cause>
     if vcpus.len() < 1 || regions.len() < 1 {
         return Some(Cause::Missing);
     }
-    if 4 < vcpus.len() || 16 < regions.len() {
+    if GUEST_VCPUS < vcpus.len() || GUEST_REGIONS < regions.len() {
         return Some(Cause::TooMany);
     }
     None
@@ -64,7 +64,7 @@ fn read_regions(
     nodes: &[Node],
     links: &[Option<(u8, u8)>],
 ) -> Result<Vec<RegionPlan>, PlanRefusal>
-    requires areas { length areas.now ≤ 8 }
+    requires areas { length areas.now ≤ MOST_AREAS }
     requires links { links.now ≡ links_of (Some aspace.now) nodes.now }
     ensures { Reads (faults_from (in_regions guest.now) name_of (λ row node. region_causes areas.now node) 0 nodes.now)
         (region_plans areas.now (Some aspace.now) nodes.now) result }
@@ -131,7 +131,7 @@ fn check_aliases(alloc: Global, guest: &[u8], plans: &[RegionPlan]) -> Result<()
 
 /// The plan of a guest's node.
 fn plan_of(alloc: Global, areas: &[(Bytes, u64)], guest: &Node) -> Result<GuestPlan, PlanRefusal>
-    requires { length areas.now ≤ 8 }
+    requires { length areas.now ≤ MOST_AREAS }
     ensures { Plans areas.now (Some guest.now) result }
 {
     let name = guest.name.as_slice();
@@ -175,7 +175,7 @@ pub(crate) fn plan_below(
     areas: &[(Bytes, u64)],
     name: &[u8],
 ) -> Result<GuestPlan, PlanRefusal>
-    requires { length areas.now ≤ 8 }
+    requires { length areas.now ≤ MOST_AREAS }
     ensures { Plans areas.now (guest_node root.now name.now) result }
 {
     let Some(guests) = child(root, b"guests") else {
@@ -194,7 +194,7 @@ pub fn plan_guest(
     areas: &[(Bytes, u64)],
     name: &[u8],
 ) -> Result<GuestPlan, PlanRefusal>
-    requires { length areas.now ≤ 8 }
+    requires { length areas.now ≤ MOST_AREAS }
     ensures plan { Plans areas.now (guest_node tree.now name.now) result }
     // What is given has numbers in range, lies within the areas, and its windows have no address in common.
     ensures rules { IfOk result (KeepsRules areas.now) }

@@ -13,16 +13,14 @@ use crate::properties::{cell, child, has, nodes_in, number};
 use crate::refusal::HostRefusal;
 use hv_dtree::{Node, Tree};
 use hv_kinds::LimitName;
-use hv_text::Bytes;
+use hv_text::{Bytes, HARTS, MOST_AREAS, MOST_MEMORY};
 use std::alloc::{AllocError, Global};
 
-const MOST_NEST: u64 = 32;
+/// The most nodes of a host tree that lie in one another.
+pub const MOST_NEST: u64 = 32;
 
-const MOST_AREAS: u64 = 8;
-
-const MOST_GUESTS: u64 = 32;
-
-const MOST_AREA_BYTES: u64 = 16777216;
+/// The most guests of a host tree.
+pub const MOST_GUESTS: usize = 32;
 
 /// What a tree says of the host, and the names of its guests.
 #[derive(Debug, Drop)]
@@ -57,7 +55,7 @@ fn machine(root: &Node) -> Option<(u32, u32)>
     let Some(turns) = setting(1000, root, b"turns") else {
         return None;
     };
-    if harts < 1 || harts > 8 || turns > 100000 {
+    if harts < 1 || harts > HARTS as u64 || turns > 100000 {
         return None;
     }
     Some((harts as u32, turns as u32))
@@ -70,13 +68,11 @@ fn limit_passed(nest: u64, areas: usize, guests: usize) -> Option<(LimitName, u6
     if nest > MOST_NEST {
         return Some((LimitName::Nest, nest));
     }
-    let areas = areas as u64;
     if areas > MOST_AREAS {
-        return Some((LimitName::Areas, areas));
+        return Some((LimitName::Areas, areas as u64));
     }
-    let guests = guests as u64;
     if guests > MOST_GUESTS {
-        return Some((LimitName::Guests, guests));
+        return Some((LimitName::Guests, guests as u64));
     }
     None
 }
@@ -86,7 +82,7 @@ fn area_size(node: &Node) -> Option<u64>
     ensures { IsArea node.now result }
 {
     let size = number(node, b"size")?;
-    if size < 1 || size > MOST_AREA_BYTES {
+    if size < 1 || size > MOST_MEMORY {
         return None;
     }
     Some(size)

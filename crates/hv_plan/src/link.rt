@@ -9,7 +9,7 @@ use crate::region::{form_of, is_device, source_of, type_of};
 use hv_dtree::Node;
 use hv_kinds::{AddressType, Cause};
 use hv_region::RegionPlan;
-use hv_text::Bytes;
+use hv_text::{Bytes, GUEST_REGIONS, MOST_AREAS};
 use std::alloc::{AllocError, Global};
 
 /// Whether a region is a device with interrupts.
@@ -53,7 +53,7 @@ fn row_of(phandle: u64, regions: &[Node]) -> Option<usize>
 
 /// The row of the region that takes a device's interrupts, and the source there.
 fn link_of(aspace: &Node, regions: &[Node], node: &Node) -> Option<(u8, u8)>
-    requires { length regions.now ≤ 16 }
+    requires { length regions.now ≤ GUEST_REGIONS }
     ensures { result ≡ link_of (Some aspace.now) regions.now node.now }
 {
     if !interrupts(node) {
@@ -70,7 +70,7 @@ pub(crate) fn links_of(
     aspace: &Node,
     regions: &[Node],
 ) -> Result<Vec<Option<(u8, u8)>>, AllocError>
-    requires { length regions.now ≤ 16 }
+    requires { length regions.now ≤ GUEST_REGIONS }
     ensures { IfOk result (λ links. links.items ≡ links_of (Some aspace.now) regions.now) }
 {
     let mut links = Vec::new(alloc);
@@ -162,7 +162,7 @@ pub(crate) fn region_plan(
     node: &Node,
     link: Option<(u8, u8)>,
 ) -> Result<RegionPlan, AllocError>
-    requires areas { length areas.now ≤ 8 }
+    requires areas { length areas.now ≤ MOST_AREAS }
     requires clock { clock ≡ clock_row regions.now }
     requires link { link ≡ link_of (Some aspace.now) regions.now node.now }
     ensures { IfOk result (λ plan. plan ≡ region_plan areas.now (Some aspace.now) regions.now row node.now) }

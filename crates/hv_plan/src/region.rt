@@ -10,11 +10,11 @@ use crate::sort::Sort;
 use hv_dtree::Node;
 use hv_kinds::{AddressType, Cause};
 use hv_region::{Form, end_of};
-use hv_text::{Bytes, Strings, word_at};
+use hv_text::{Bytes, MOST_AREAS, MOST_MEMORY, Strings, word_at};
 use std::alloc::{AllocError, Global};
 
-/// How many bytes a region of memory has at most.
-const MOST_BYTES: u64 = 16777216;
+/// The greatest number of a source of interrupts; the least one is 1.
+pub const LAST_SOURCE: u64 = 31;
 
 /// What sort of region a node means.
 pub(crate) fn sort_of(node: &Node) -> Option<Sort>
@@ -85,7 +85,7 @@ pub(crate) fn source_of(node: &Node) -> Option<u8>
     ensures { result ≡ source_of node.now }
 {
     let source = cell(node, b"interrupts")?;
-    if source < 1 || source > 31 {
+    if source < 1 || source > LAST_SOURCE {
         return None;
     }
     Some(source as u8)
@@ -158,8 +158,8 @@ fn keeps_sort(areas: &[(Bytes, u64)], node: &Node, sort: Option<Sort>) -> bool
 {
     match sort {
         None => true,
-        Some(Sort::Ram) => is_within(1, MOST_BYTES, number(node, b"physical_size")),
-        Some(Sort::Rom) => is_within(1, MOST_BYTES, number(node, b"physical_size")),
+        Some(Sort::Ram) => is_within(1, MOST_MEMORY, number(node, b"physical_size")),
+        Some(Sort::Rom) => is_within(1, MOST_MEMORY, number(node, b"physical_size")),
         Some(Sort::Device) => !has(node, b"interrupts") || source_of(node).is_some(),
         Some(Sort::Real) => is_part(
             number_or(0, node, b"area_offset"),
@@ -222,7 +222,7 @@ pub(crate) fn form_of(
     areas: &[(Bytes, u64)],
     node: &Node,
 ) -> Result<Form, AllocError>
-    requires { length areas.now ≤ 8 }
+    requires { length areas.now ≤ MOST_AREAS }
     ensures { IfOk result (λ form. form ≡ form_by areas.now node.now (sort_of node.now)) }
 {
     match sort_of(node) {
@@ -248,7 +248,7 @@ fn compatible_of(alloc: Global, node: &Node) -> Result<Strings, AllocError>
 }
 
 fn area_row(areas: &[(Bytes, u64)], node: &Node) -> u8
-    requires { length areas.now ≤ 8 }
+    requires { length areas.now ≤ MOST_AREAS }
     ensures { result ≡ area_row areas.now node.now }
 {
     match area_of(areas, node) {
