@@ -1,6 +1,7 @@
 -- A closed board's history is legal.
 use Rattle.std.proofs.Common.{◌≡◌, ◌≤◌, Bool, true, false, ◌||◌, List, [], ◌∷◌, ◌++◌, map, refl, ap, sym, subst}
 use Rattle.std.specs.List.{AllByRecursion, list_any}
+use Rattle.hv_text.specs.declared.limits.TheConstants.{GREATEST_STAMP}
 use Rattle.hv_machine.specs.Machine.{touches, events_at, events_by, state_after}
 use Rattle.hv_machine.specs.Merging.{IsRising, fold_at}
 use Rattle.hv_machine.specs.Phases.{HasActors, IsTwoPartRun}
@@ -14,7 +15,7 @@ use Rattle.hv_model.specs.CellLaws.{same_actor-self, same_actor-only}
 use Rattle.hv_model.specs.Entry.{Entry}
 use Rattle.hv_model.specs.Rules.{rules, machine, components}
 use Rattle.hv_model.specs.Terminal.{TerminalState, IsAtBootEnd}
-use Rattle.hv_model.specs.Legal.{first, greatest_stamp, start, Legal, reached, own_at_start}
+use Rattle.hv_model.specs.Legal.{first, start, Legal, reached, own_at_start}
 use Rattle.hv_model.specs.Rounds.{RoundsAreLegal}
 use Rattle.hv_model.specs.Board.{ClosedBoardIsLegal}
 
@@ -49,7 +50,7 @@ closed-legal O logs entries boot own all closed =
     let parts : IsTwoPartRun m is_actor first (start O) entries boot all =
     two-part m rank_of is_actor first (has-actors O) refl (start O) logs entries boot own all closed.began closed.merged in
     let Rises : List Entry → Type 0 = IsRising m rank_of in
-    let InRange : List Entry → Type 0 = AllByRecursion (λ e. e.event.stamp ≤ greatest_stamp) in
+    let InRange : List Entry → Type 0 = AllByRecursion (λ e. e.event.stamp ≤ GREATEST_STAMP) in
     let events = λ (es : List Entry). map (λ (e : Entry). e.event) es in
     let Ended : TerminalState → Type 0 = IsAtBootEnd in
     let Within : TerminalState → Type 0 = λ t. t.own ≡ own_at_start O 0 in

@@ -1,6 +1,7 @@
 -- A run leads where its merged history leads.
 use Rattle.std.proofs.Common.{◌≡◌, ◌≤◌, List, [], ◌∷◌, ◌++◌, map, refl, ap, sym, subst, ◌∙◌}
 use Rattle.std.specs.List.{AllByRecursion}
+use Rattle.hv_text.specs.declared.limits.TheConstants.{GREATEST_STAMP}
 use Rattle.hv_machine.specs.Machine.{Machine, State, events_at, events_by, state_after}
 use Rattle.hv_machine.specs.Merging.{IsRising, IsMerged}
 use Rattle.hv_machine.specs.Phases.{IsTwoPart, IsTwoPartRun}
@@ -13,19 +14,19 @@ use Rattle.hv_model.specs.Cell.{Cell, is_actor, rank_of}
 use Rattle.hv_model.specs.Entry.{Entry}
 use Rattle.hv_model.specs.Rules.{machine}
 use Rattle.hv_model.specs.Terminal.{IsAtBootEnd}
-use Rattle.hv_model.specs.Legal.{first, greatest_stamp, start, own_at_start, booted, begun, reached, IsRunOf, Leads}
+use Rattle.hv_model.specs.Legal.{first, start, own_at_start, booted, begun, reached, IsRunOf, Leads}
 use Rattle.hv_model.proofs.BoardLemmas.{has-actors}
 
 abbrev pub logs_of : Origin → List Entry → Cell → List Entry
 logs_of O es a = events_by (machine O) a es
 
 abbrev pub InRange : List Entry → Type 0
-InRange es = AllByRecursion (λ e. e.event.stamp ≤ greatest_stamp) es
+InRange es = AllByRecursion (λ e. e.event.stamp ≤ GREATEST_STAMP) es
 
 -- a fact on all events that were made is one on the merged list
 pub in-range-merged : (O : Origin) (made all : List Entry) → IsMerged (machine O) rank_of (logs_of O made) all → InRange made → InRange all
 in-range-merged O made all merged range =
-    let P : Entry → Type 0 = λ e. e.event.stamp ≤ greatest_stamp in
+    let P : Entry → Type 0 = λ e. e.event.stamp ≤ GREATEST_STAMP in
     let Of : List Entry → Type 0 = AllByRecursion P in
     all-by (machine O) P all (λ a. subst Of (sym (merged.whole a)) (all-filter P (λ e. (machine O).same a ((machine O).actor e)) made range))
 

@@ -1,6 +1,7 @@
 -- Logs that agree with the components' entries, merged, are a legal history.
 use Rattle.std.specs.Prelude.{◌≡◌, ◌≤◌, List, map}
 use Rattle.std.specs.List.{AllByRecursion}
+use Rattle.hv_text.specs.declared.limits.TheConstants.{GREATEST_STAMP}
 use Rattle.hv_machine.specs.Merging.{IsMerged, fold_at}
 use Rattle.hv_machine.specs.Phases.{Began}
 use Rattle.hv_model.specs.Origin.{Origin}
@@ -8,7 +9,7 @@ use Rattle.hv_model.specs.Cell.{Cell, is_actor, rank_of}
 use Rattle.hv_model.specs.Entry.{Entry}
 use Rattle.hv_model.specs.Terminal.{TerminalState, IsAtBootEnd}
 use Rattle.hv_model.specs.Rules.{rules, machine}
-use Rattle.hv_model.specs.Legal.{first, greatest_stamp, start, own_at_start, Legal}
+use Rattle.hv_model.specs.Legal.{first, start, own_at_start, Legal}
 
 -- Terminal 0 as its boot part left it.
 abbrev pub terminal_booted : Origin → List Entry → TerminalState
@@ -20,7 +21,7 @@ pub record IsClosed (O : Origin) (logs entries : Cell → List Entry) (boot own 
   pub boot_ended : IsAtBootEnd (terminal_booted O boot)
   pub within : (terminal_booted O boot).own ≡ own_at_start O 0
   pub merged : IsMerged (machine O) rank_of logs all
-  pub in_range : AllByRecursion (λ e. e.event.stamp ≤ greatest_stamp) all
+  pub in_range : AllByRecursion (λ e. e.event.stamp ≤ GREATEST_STAMP) all
 
 -- The merged list of a closed board is a legal history.
 abbrev pub ClosedBoardIsLegal : Type 0

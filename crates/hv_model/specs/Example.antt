@@ -21,7 +21,7 @@ opening = record {
 }
 
 abbrev pub origin : Origin
-origin = origin_of opening
+origin = origin_of opening []
 
 abbrev pub event : Event
 event = record {

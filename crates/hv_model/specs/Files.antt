@@ -98,10 +98,16 @@ FilesAgree m (step.Asm s) r c =
     (answer : Result ℕ Refusal) × (r ≡ reply.Asm answer) × AnswersAssembly m (read_file m s.source) s.target answer
 FilesAgree m _ r c = ⊥
 
--- A step leaves the files changed where it makes, removes or writes something, and is not refused.
+-- A step leaves the files changed where it makes, removes or writes something, and is not refused; the steps that have no
+-- row don't touch the files.
 abbrev pub files_after : FileMap → Step → Reply → FileMap
 files_after m (step.Mkdir s) r = changed m (made_folder m s.path)
 files_after m (step.Rm s) r = changed m (without m s.path)
 files_after m (step.Write s) r = changed m (with_file m s.path s.bytes)
 files_after m (step.Asm s) (reply.Asm (Ok count)) = image_written m (read_file m s.source) s.target
+files_after m (step.Asm s) r = m
+files_after m (step.Ls s) r = m
+files_after m (step.Cat s) r = m
+files_after m (step.Dts s) r = m
+files_after m (step.Run s) r = m
 files_after m _ r = m

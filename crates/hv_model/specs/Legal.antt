@@ -1,6 +1,7 @@
 -- Legal and complete histories.
-use Rattle.std.specs.Prelude.{◌≡◌, ℕ, ◌+◌, ◌≤◌, ◌^◌, length, List, [], ◌++◌, map, ◌==◌, if◌then◌else◌, ◌∷◌}
+use Rattle.std.specs.Prelude.{◌≡◌, ℕ, ◌+◌, ◌<◌, ◌≤◌, ◌^◌, max, length, List, [], ◌++◌, map, ◌==◌, if◌then◌else◌, ◌∷◌}
 use Rattle.std.specs.List.{AllByRecursion, range_with_len}
+use Rattle.hv_text.specs.declared.limits.TheConstants.{GREATEST_STAMP}
 use Rattle.hv_machine.specs.Machine.{State, state_after}
 use Rattle.hv_machine.specs.Merging.{IsRising}
 use Rattle.hv_machine.specs.Phases.{together, IsTwoPart}
@@ -51,10 +52,6 @@ start O x = record { value = value_at_start O x; stamp = 0 }
 abbrev pub first : Cell
 first = Actor (Terminal 0)
 
--- The greatest stamp that an event may have.
-abbrev pub greatest_stamp : ℕ
-greatest_stamp = 2 ^ 62
-
 module _ (O : Origin) where
   -- The state that the boot part leaves.
   abbrev pub booted : List Entry → State (machine O)
@@ -75,7 +72,7 @@ module _ (O : Origin) where
     -- it rises by stamp, and at one stamp by actor
     pub rising : IsRising (machine O) rank_of (boot ++ later)
     -- no stamp passes the greatest
-    pub in_range : AllByRecursion (λ e. e.event.stamp ≤ greatest_stamp) (boot ++ later)
+    pub in_range : AllByRecursion (λ e. e.event.stamp ≤ GREATEST_STAMP) (boot ++ later)
     -- Terminal 0 made the boot part alone, and each part is a run
     pub parts : IsTwoPart (machine O) is_actor first (start O) boot later
     -- the boot part has none of Terminal 0's own commands
@@ -106,10 +103,18 @@ module _ (O : Origin) where
   abbrev pub Complete : List Event → Type 0
   Complete H = (s : State (machine O)) × Leads H s × IsComplete s
 
-  -- A run that was stopped: its history leads to a state that has these files.
+  -- A step is due that finds the greatest stamp: a terminal isn't at its end, and it or the files have that stamp.
+  pub record IsSpent (s : State (machine O)) : Type 0 where
+    pub terminal : ℕ
+    pub is_one : terminal < 4
+    pub due : IsAtEnd (s (Actor (Terminal terminal))).value → ⊥
+    pub found : max (s (Actor (Terminal terminal))).stamp (s (Component component.Files)).stamp ≡ GREATEST_STAMP
+
+  -- A run that was stopped: its history leads to a state that has these files, and in which a step finds the greatest stamp.
   pub record IsStoppedRun (H : List Event) (files : FileMap) : Type 0 where
     pub state : State (machine O)
     pub legal : Leads H state
+    pub spent : IsSpent state
     pub final : (state (Component component.Files)).value ≡ files
 
   -- A run that was finished: its history leads to a state that has these files, and in which nothing is left to do.

@@ -1,14 +1,16 @@
 -- What a run begins with, and what the definitions read off it.
 use Rattle.std.specs.Prelude.{ℕ, ◌+◌, nat_lt, if◌then◌else◌, List, [], ◌∷◌, slice_get, unwrap_or}
+use Rattle.hv_emu.specs.Device.{DevState}
 use Rattle.hv_model.specs.declared.opening.Opening.{Opening}
 
--- An origin is all that a run begins with.
+-- An origin is all that a run begins with: its opening, and the devices that no guest has, in their order.
 pub record Origin : Type 0 where
   pub opening : Opening
+  pub devices : List DevState
 
--- The origin of an opening has nothing beside it.
-abbrev pub origin_of : Opening → Origin
-origin_of o = record { opening = o }
+-- The origin of an opening with the devices that are handed in.
+abbrev pub origin_of : Opening → List DevState → Origin
+origin_of o devices = record { opening = o; devices = devices }
 
 -- The boot script is the first of the scripts; one that isn't there is empty.
 abbrev pub boot_among : List (List ℕ) → List ℕ

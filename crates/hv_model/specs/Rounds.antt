@@ -1,6 +1,7 @@
 -- Rounds: each actor that is not at its end makes one step, the harts first and each kind by number.
 use Rattle.std.specs.Prelude.{◌≡◌, ℕ, ◌≤◌, ◌&&◌, Bool, true, false, if◌then◌else◌, ◌==◌, Option, Some, None, List, [], ◌∷◌, ◌++◌, map}
 use Rattle.std.specs.List.{AllByRecursion, range_with_len}
+use Rattle.hv_text.specs.declared.limits.TheConstants.{GREATEST_STAMP}
 use Rattle.hv_machine.specs.Machine.{State, events_by, next_state}
 use Rattle.hv_machine.specs.Merging.{IsMerged}
 use Rattle.hv_machine.specs.Phases.{IsTwoPart}
@@ -12,7 +13,7 @@ use Rattle.hv_model.specs.Cell.{Actor, is_actor, rank_of}
 use Rattle.hv_model.specs.Entry.{Entry}
 use Rattle.hv_model.specs.Terminal.{TerminalState, Scripts, next_in, IsAtBootEnd}
 use Rattle.hv_model.specs.Rules.{machine}
-use Rattle.hv_model.specs.Legal.{first, greatest_stamp, start, own_at_start, booted, begun, Legal}
+use Rattle.hv_model.specs.Legal.{first, start, own_at_start, booted, begun, Legal}
 
 -- Whether no command is next.
 abbrev pub is_over : Option (List ℕ × Scripts) → Bool
@@ -64,7 +65,7 @@ module _ (O : Origin) where
     pub turns : TakesTurns (begun O boot) [] made
     pub merged : IsMerged (machine O) rank_of (λ a. events_by (machine O) a (boot ++ made)) all
     pub events : map (λ e. e.event) all ≡ H
-    pub in_range : AllByRecursion (λ e. e.event.stamp ≤ greatest_stamp) all
+    pub in_range : AllByRecursion (λ e. e.event.stamp ≤ GREATEST_STAMP) all
 
 -- A history made in rounds is legal.
 abbrev pub RoundsAreLegal : Type 0

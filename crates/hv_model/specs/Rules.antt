@@ -21,7 +21,8 @@ Value (Component component.Files) = FileMap
 Value (Actor (Hart h)) = HartState
 Value (Actor (Terminal t)) = TerminalState
 
--- The components that a step touches, in the order in which they are locked.
+-- The components that a step touches, in the order in which they are locked: those on files touch the files, a rest and a
+-- bad line none; no command makes a step that has no row, and no terminal agrees to one.
 abbrev pub components_of : Step → List CellId
 components_of (step.Ls s) = component.Files ∷ []
 components_of (step.Cat s) = component.Files ∷ []
@@ -31,6 +32,8 @@ components_of (step.Mkdir s) = component.Files ∷ []
 components_of (step.Rm s) = component.Files ∷ []
 components_of (step.Write s) = component.Files ∷ []
 components_of (step.Asm s) = component.Files ∷ []
+components_of (step.Rest s) = []
+components_of (step.Bad s) = []
 components_of _ = []
 
 -- The components that an event touches, given the number of harts.

@@ -1,6 +1,7 @@
 -- A terminal's program: it makes the steps of the commands of its scripts, one line after the other.
 use Rattle.std.specs.Prelude.{◌≡◌, ◌≢◌, ℕ, zero, suc, ◌+◌, ◌-◌, Bool, nat_le, Option, None, Some, Result, Ok, Err, List, [], ◌∷◌, length}
 use Rattle.hv_text.specs.Lines.{script_lines}
+use Rattle.hv_text.specs.declared.limits.TheConstants.{OPEN_SCRIPTS, MOST_LINES}
 use Rattle.hv_text.specs.Number.{number_of}
 use Rattle.hv_text.specs.declared.number.NumberRefusal.{NumberRefusal}
 use Rattle.hv_words.specs.declared.command.Command.{Command}
@@ -84,33 +85,33 @@ step_of (command.VfsAsm source target) = step.Asm (record { source = source; tar
 step_of (command.VfsRun path) = step.Run (record { path = path })
 step_of (command.TermRest count) = step.Rest (record {})
 
--- As many scripts may be open.
-abbrev pub most_scripts : ℕ
-most_scripts = 4
-
--- As many lines may all scripts of a terminal have.
-abbrev pub most_lines : ℕ
-most_lines = 10000
-
--- A script that is not too deep is too long exactly where all lines that the terminal opened, with its own, are more
--- than may be; `fits` says that they are not.
-abbrev pub LengthAnswers : Bool → Result (List ℕ) Refusal → Type 0
+-- A script that may be opened beside the others is too long exactly where its lines, with those of all scripts that the
+-- terminal opened, are more than a terminal's scripts may have; the first argument says that they fit.
+abbrev pub LengthAnswers : (fits : Bool) → Result (List ℕ) Refusal → Type 0
 LengthAnswers Bool.true r = (r ≢ Err refusal.TooDeep) × (r ≢ Err refusal.TooLong)
 LengthAnswers Bool.false r = r ≡ Err refusal.TooLong
 
--- What the terminal says of the reply to a run: it is TooDeep exactly where four scripts are open, and else its length
--- decides, where a script was found with its number of lines.
-abbrev pub RunAnswers : Bool → ℕ → Option ℕ → Result (List ℕ) Refusal → Type 0
+-- What the terminal says of the reply to a run: it is TooDeep exactly where as many scripts are open as a terminal may
+-- have, as the first argument says; else the length decides, where a script was found with its number of lines.
+abbrev pub RunAnswers : (full : Bool) → (lines : ℕ) → (found : Option ℕ) → Result (List ℕ) Refusal → Type 0
 RunAnswers Bool.true lines found r = r ≡ Err refusal.TooDeep
 RunAnswers Bool.false lines None r = r ≢ Err refusal.TooDeep
-RunAnswers Bool.false lines (Some n) r = LengthAnswers (nat_le (lines + n) most_lines) r
+RunAnswers Bool.false lines (Some n) r = LengthAnswers (nat_le (lines + n) MOST_LINES) r
 
--- The terminal decides the reply of a step that touches no component, and whether a script may be run.
+-- The terminal decides the reply of a step that touches no component, and whether a script may be run; the replies of
+-- the other steps on files are the files' to decide, and no command makes another step.
 abbrev pub TerminalReplies : Begun → ℕ → Step → Reply → Carry → Type 0
 TerminalReplies b lines (step.Rest _) r c = r ≡ reply.Rest
-TerminalReplies b lines (step.Run _) (reply.Run r) c = RunAnswers (nat_le most_scripts (length (scripts_of b))) lines c.lines r
+TerminalReplies b lines (step.Run _) (reply.Run r) c = RunAnswers (nat_le OPEN_SCRIPTS (length (scripts_of b))) lines c.lines r
 TerminalReplies b lines (step.Run _) _ c = ⊥
-TerminalReplies b lines _ r c = Unit {0}
+TerminalReplies b lines (step.Ls _) r c = Unit {0}
+TerminalReplies b lines (step.Cat _) r c = Unit {0}
+TerminalReplies b lines (step.Dts _) r c = Unit {0}
+TerminalReplies b lines (step.Mkdir _) r c = Unit {0}
+TerminalReplies b lines (step.Rm _) r c = Unit {0}
+TerminalReplies b lines (step.Write _) r c = Unit {0}
+TerminalReplies b lines (step.Asm _) r c = Unit {0}
+TerminalReplies b lines _ r c = ⊥
 
 -- The first step of a line is that of its command, or the line is bad and the reply says why.
 abbrev pub IsFirstStep : Begun → ℕ → Result Command WordsRefusal → Step → Reply → Carry → Type 0

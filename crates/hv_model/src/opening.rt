@@ -1,7 +1,6 @@
 //! What a run begins with.
 use hv_bundle::File;
-use hv_host::Fault;
-use hv_plan::GuestPlan;
+use hv_region::{Fault, GuestPlan};
 use hv_text::{Bytes, Items, Strings};
 
 /// What a run begins with.

@@ -60,12 +60,15 @@ fn tells_the_first_faulty_node(rt: HostRuntime) -> Result<(), Fail> {
     let alloc = rt.alloc();
     let changes: [Change; 2] = [(b"sea", b"size", None), (b"pool", b"size", Some(b"\0\0"))];
     let root = root_of(alloc, &GOOD, &[b"g0"], &changes)?;
-    match settings_below(alloc, &root) {
-        Err(HostRefusal::BadHost(path)) => {
-            assert!(rt; path.as_slice() == b"/areas/pool".as_slice());
-        }
-        _ => assert!(rt; false, "no fault"),
-    }
+    let Err(refusal) = settings_below(alloc, &root) else {
+        assert!(rt; false, "no fault");
+        return Ok(());
+    };
+    let HostRefusal::BadHost(path) = refusal else {
+        assert!(rt; false, "another fault");
+        return Ok(());
+    };
+    assert!(rt; path.as_slice() == b"/areas/pool".as_slice());
     Ok(())
 }
 

@@ -1,22 +1,25 @@
 -- What a closed board leaves.
-use Rattle.std.proofs.Common.{◌≡◌, ℕ, zero, suc, ◌<◌, ◌≤◌, max, Bool, true, false, ◌&&◌, eqb, eqb-true, inl, inr, ◌⊎◌, Option, Some, None, Result, Ok, Err, List, [], ◌∷◌, ◌++◌, map, filter, cond, length, refl, ap, sym, subst, ◌∙◌, arith}
+use Rattle.std.proofs.Common.{◌≡◌, ℕ, zero, suc, ◌<◌, ◌≤◌, max, Bool, true, false, ◌&&◌, eqb, eqb-true, eq-eqb, inl, inr, ◌⊎◌, Option, Some, None, Result, Ok, Err, List, [], ◌∷◌, ◌++◌, map, filter, cond, length, refl, ap, sym, subst, ◌∙◌, arith}
 use Rattle.std.specs.Prelude.{slice_index_or, Any, IfOk}
 use Rattle.std.specs.List.{AllByRecursion, range_with_len}
 use Rattle.std.proofs.lemmas.Bool.{cases_lt}
+use Rattle.hv_text.specs.declared.limits.TheConstants.{GREATEST_STAMP}
 use Rattle.hv_machine.specs.Machine.{State, state_after}
 use Rattle.hv_machine.specs.Phases.{IsTwoPart}
 use Rattle.hv_machine.proofs.Lists.{all-map, all-of, append-nothing}
 use Rattle.hv_event.specs.declared.event.ActorId.{ActorId}
+use Rattle.hv_event.specs.declared.event.CellId.TheVariants as component
 use Rattle.hv_event.specs.declared.event.ActorId.TheVariants.{Hart, Terminal}
 use Rattle.hv_event.specs.declared.event.Event.{Event}
 use Rattle.hv_merge.specs.Merging.{AreLogs, IsMergeOf}
 use Rattle.hv_model.specs.declared.entry.Entry.{Entry}
 use Rattle.hv_model.specs.Origin.{Origin, terminals}
-use Rattle.hv_model.specs.Cell.{Actor, is_actor, same_actor}
+use Rattle.hv_model.specs.Cell.{Component, Actor, is_actor, same_actor}
 use Rattle.hv_model.specs.CellLaws.{same_actor-self}
 use Rattle.hv_model.specs.Terminal.{TerminalState, next_in, IsAtBootEnd, IsAtEnd}
 use Rattle.hv_model.specs.Rules.{machine}
-use Rattle.hv_model.specs.Legal.{first, greatest_stamp, start, own_at_start, terminal_at_start, booted, begun, Leads, IsComplete}
+use Rattle.hv_model.specs.Legal.{first, start, own_at_start, terminal_at_start, booted, begun, Leads, IsComplete}
+use Rattle.hv_model.specs.Legal.{IsSpent as IsSpentIn}
 use Rattle.hv_model.specs.Rounds.{TakesTurns, terminal_has_ended, is_over}
 use Rattle.hv_model.specs.Report.{events_of, IsTranscript, AreTranscripts}
 use Rattle.hv_model.proofs.RunLemmas.{made-leads, boot-leads, in-range-merged}
@@ -24,7 +27,7 @@ use Rattle.hv_rounds.specs.declared.terminal.Terminal.{Terminal as TerminalCell}
 use Rattle.hv_rounds.specs.declared.board.Board.{Board}
 use Rattle.hv_rounds.specs.declared.whole.Outcome.{Outcome}
 use Rattle.hv_rounds.specs.Cells.{value_of}
-use Rattle.hv_rounds.specs.Board.{at, Goes, IsHeld, IsByTerminal, FoundLast, EndedFrom}
+use Rattle.hv_rounds.specs.Board.{at, Goes, Holds, IsHeld, IsByTerminal, FoundLast, EndedFrom}
 use Rattle.hv_rounds.specs.Phase.{BootPart, BootEnds, RoundsEnd, IsBooted}
 use Rattle.hv_rounds.specs.Close.{logs_of, Closes}
 use Rattle.hv_rounds.specs.Outcome.{IsFinished, IsSpent, IsOutcome}
@@ -96,7 +99,7 @@ held-in-merged O es H n m found =
 max-one : (x y : ℕ) → (max x y ≡ x) ⊎ (max x y ≡ y)
 max-one x y = elim (cases_lt x y) [ inl less ↦ inr (omega arith) | inr not_less ↦ inl (omega arith) ]
 
-made-stamp : (es : List Entry) (m n : ℕ) → m ≡ n → n ≡ greatest_stamp → IsHeld es m → Any (λ e. e.event.stamp ≡ n) es
+made-stamp : (es : List Entry) (m n : ℕ) → m ≡ n → n ≡ GREATEST_STAMP → IsHeld es m → Any (λ e. e.event.stamp ≡ n) es
 made-stamp es m n is last (inl none) = absurd (omega arith)
 made-stamp es m n is last (inr some) = subst (λ (k : ℕ). Any (λ (e : Entry). e.event.stamp ≡ k) es) is some
 
@@ -116,6 +119,30 @@ at-end t is =
     let both = and-both (eqb t.rests 0) (is_over (next_in t.boot) && is_over (next_in t.own)) is in
     let scripts = and-both (is_over (next_in t.boot)) (is_over (next_in t.own)) both.1 in
     record { rests = eqb-true t.rests 0 both.0; boot = over-none (next_in t.boot) scripts.0; own = over-none (next_in t.own) scripts.1 }
+
+-- what is at its end has ended
+ended-at : (t : TerminalState) → IsAtEnd t → terminal_has_ended t ≡ true
+ended-at t end =
+    let rests : eqb t.rests 0 ≡ true = eq-eqb t.rests 0 end.rests in
+    let boot : is_over (next_in t.boot) ≡ true = ap is_over end.boot in
+    let own : is_over (next_in t.own) ≡ true = ap is_over end.own in
+    rw rests (rw boot own)
+
+-- a step that a board has stopped is due in the state that the board holds
+spent-in : (O : Origin) (s : State (machine O)) (b : Board) (n : ℕ) → Holds O s b → FoundLast b n → IsSpentIn O s
+spent-in O s b n holds found =
+    let d = terminal_of b in
+    let t = found.terminal in
+    record {
+      terminal = t;
+      is_one = found.is_one;
+      due = λ end.
+          (let ended : terminal_has_ended (value_of (at b t d)) ≡ true = ended-at (value_of (at b t d)) (subst IsAtEnd (holds.terminals t d found.is_one) end) in
+          let left = found.left d in
+          absurd (cc));
+      found = ap (λ (k : ℕ). max k (s (Component component.Files)).stamp) (holds.stamps t d found.is_one)
+          ∙ ap (max (at b t d).stamp) holds.files_stamp ∙ found.found d ∙ found.last;
+    }
 
 all-join : {A : Type 0} (P : A → Type 0) (xs ys : List A) → AllByRecursion P xs → AllByRecursion P ys → AllByRecursion P (xs ++ ys)
 all-join P [] ys h k = k
@@ -152,7 +179,7 @@ module _ (O : Origin) (boot : List Entry) (b : Board) (p : BootPart O boot b) wh
   spent-boot b' n o not_end files found c =
       let same : boot ++ [] ≡ boot = append-nothing boot in
       let By : List Entry → Type 0 = AllByRecursion IsByTerminal in
-      let Range : List Entry → Type 0 = AllByRecursion (λ e. e.event.stamp ≤ greatest_stamp) in
+      let Range : List Entry → Type 0 = AllByRecursion (λ e. e.event.stamp ≤ GREATEST_STAMP) in
       let Made : List Entry → Type 0 = Any (λ e. e.event.stamp ≡ n) in
       let merged = merged-entries O (boot ++ []) o.history.items (subst By (sym same) p.goes.by_terminals) c.history in
       let parts : IsTwoPart (machine O) is_actor first (start O) boot [] = record { alone = boot-alone; boot_runs = p.goes.run; later_runs = tt } in
@@ -160,7 +187,7 @@ module _ (O : Origin) (boot : List Entry) (b : Board) (p : BootPart O boot b) wh
       let leads = boot-leads O boot merged.all parts merged.merged (subst Range (sym same) p.goes.in_range) boot-within (λ end. not_end d (subst IsAtBootEnd (boot-value d) end)) in
       let Led : List Event → Type 0 = λ H. Leads O H (booted O boot) in
       record {
-        run = record { state = booted O boot; legal = subst Led merged.events leads; final = p.goes.holds.files ∙ ap (λ f. f.tree) (sym files) ∙ sym c.files };
+        run = record { state = booted O boot; legal = subst Led merged.events leads; spent = spent-in O (booted O boot) b n p.goes.holds found; final = p.goes.holds.files ∙ ap (λ f. f.tree) (sym files) ∙ sym c.files };
         last = found.last;
         held = held-in-merged O (boot ++ []) o.history.items n merged (subst Made (sym same) (found-made O (start O) [] boot b n p.goes found));
       }
@@ -172,8 +199,8 @@ module _ (O : Origin) (boot : List Entry) (b : Board) (p : BootPart O boot b) wh
     both-by : AllByRecursion IsByTerminal (boot ++ made)
     both-by = all-join IsByTerminal boot made p.goes.by_terminals g.by_terminals
 
-    both-range : AllByRecursion (λ e. e.event.stamp ≤ greatest_stamp) (boot ++ made)
-    both-range = all-join (λ e. e.event.stamp ≤ greatest_stamp) boot made p.goes.in_range g.in_range
+    both-range : AllByRecursion (λ e. e.event.stamp ≤ GREATEST_STAMP) (boot ++ made)
+    both-range = all-join (λ e. e.event.stamp ≤ GREATEST_STAMP) boot made p.goes.in_range g.in_range
 
     both-parts : IsTwoPart (machine O) is_actor first (start O) boot made
     both-parts = record { alone = boot-alone; boot_runs = p.goes.run; later_runs = g.run }
@@ -191,6 +218,7 @@ module _ (O : Origin) (boot : List Entry) (b : Board) (p : BootPart O boot b) wh
           run = record {
             state = state_after (machine O) (begun O boot) made;
             legal = both-lead o.history.items merged;
+            spent = spent-in O (state_after (machine O) (begun O boot) made) c n g.holds found;
             final = g.holds.files ∙ ap (λ f. f.tree) (sym files) ∙ sym k.files;
           };
           last = found.last;

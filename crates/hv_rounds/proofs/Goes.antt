@@ -5,6 +5,7 @@ use Rattle.std.specs.List.{AllByRecursion}
 use Rattle.std.proofs.lemmas.Bool.{ne_eqb}
 use Rattle.std.proofs.lemmas.List.Quantifiers.{Any-push}
 use Rattle.std.proofs.lemmas.List.{get_or_append_left}
+use Rattle.hv_text.specs.declared.limits.TheConstants.{GREATEST_STAMP}
 use Rattle.hv_machine.specs.Machine.{Machine, State, next_state, state_after, IsRun, MayHappen}
 use Rattle.hv_machine.proofs.Lists.{append-nothing, filter-append, all-map}
 use Rattle.hv_merge.specs.Merging.{IsLog, IsFollowedBy}
@@ -14,7 +15,7 @@ use Rattle.hv_model.specs.declared.entry.Entry.{Entry}
 use Rattle.hv_model.specs.Origin.{Origin}
 use Rattle.hv_model.specs.Terminal.{TerminalState, terminal_after}
 use Rattle.hv_model.specs.Rules.{machine}
-use Rattle.hv_model.specs.Legal.{greatest_stamp, terminal_at_start}
+use Rattle.hv_model.specs.Legal.{terminal_at_start}
 use Rattle.hv_model.specs.Report.{IsTranscript, ShowsEvent, is_terminal}
 use Rattle.hv_rounds.specs.declared.files.FileCell.{FileCell}
 use Rattle.hv_rounds.specs.declared.terminal.Terminal.{Terminal as TerminalCell}
@@ -157,7 +158,7 @@ goes-step O s before made b b' t e d below goes step =
                 subst (λ (y : TerminalCell). ShownAt O u ((before ++ made) ++ e ∷ []) y) (sym (step.others u x different))
                 (shown-other O t u (before ++ made) e (at b u x) actor_is different (goes.shown u x lt))
           ] refl);
-      in_range = all-push (λ (x : Entry). x.event.stamp ≤ greatest_stamp) made e goes.in_range (let bounded = (at b' t d).stamp_bounded in let is = (step.step d).stamp in omega arith);
+      in_range = all-push (λ (x : Entry). x.event.stamp ≤ GREATEST_STAMP) made e goes.in_range (let bounded = (at b' t d).stamp_bounded in let is = (step.step d).stamp in omega arith);
       by_terminals = all-push IsByTerminal made e goes.by_terminals (record { number = t; is_one = below; actor = actor_is });
       files_held = subst (λ (es : List Entry). IsHeld es b'.files.stamp) whole (files-held-next (before ++ made) b.files b'.files (at b t d).stamp e (step.step d).files goes.files_held);
       held = λ u x lt.

@@ -2,6 +2,7 @@
 use Rattle.std.proofs.Common.{◌≡◌, ◌≢◌, ℕ, zero, suc, ◌+◌, ◌-◌, ◌*◌, ◌^◌, ◌<◌, ◌≤◌, Bool, true, false, ◌&&◌, eqb, eqb-true, inl, inr, Option, Some, None, Ok, Err, List, [], ◌∷◌, ◌++◌, length, refl, ap, sym, ◌∙◌, arith}
 use Rattle.std.specs.Prelude.{slice_index_or}
 use Rattle.std.proofs.lemmas.List.{get_or_default}
+use Rattle.hv_text.specs.declared.limits.TheConstants.{GREATEST_STAMP}
 use Rattle.hv_machine.specs.Machine.{State, state_after}
 use Rattle.hv_event.specs.declared.event.ActorId.TheVariants.{Terminal}
 use Rattle.hv_event.specs.declared.event.Event.{Event}
@@ -80,7 +81,7 @@ other-stays b b' t u e lt apart s =
     let d = terminal_of b in
     stamp-of b' u d lt ∙ ap (λ (x : TerminalCell). x.stamp) (s.others u d apart) ∙ sym (stamp-of b u d lt)
 
-bounded : (b : Board) (t : ℕ) → t < 4 → stamp_at b.terminals.items t ≤ 2 ^ 62
+bounded : (b : Board) (t : ℕ) → t < 4 → stamp_at b.terminals.items t ≤ GREATEST_STAMP
 bounded b t lt =
     let d = terminal_of b in
     let is = stamp-of b t d lt in
@@ -91,13 +92,13 @@ bounded b t lt =
 pub total : List TerminalCell → ℕ
 total xs = stamp_at xs 0 + stamp_at xs 1 + stamp_at xs 2 + stamp_at xs 3
 
-pub boot-smaller : (b b' : Board) (e : Entry) → IsBoardStep b b' 0 e → 2 ^ 62 - stamp_at b'.terminals.items 0 < 2 ^ 62 - stamp_at b.terminals.items 0
+pub boot-smaller : (b b' : Board) (e : Entry) → IsBoardStep b b' 0 e → GREATEST_STAMP - stamp_at b'.terminals.items 0 < GREATEST_STAMP - stamp_at b.terminals.items 0
 boot-smaller b b' e s =
     let more = own-rises b b' 0 e (omega arith) s in
     let most = bounded b' 0 (omega arith) in
     omega arith
 
-pub rounds-smaller : (b b' : Board) (t : ℕ) (e : Entry) → t < 4 → IsBoardStep b b' t e → 4 * 2 ^ 62 - total b'.terminals.items < 4 * 2 ^ 62 - total b.terminals.items
+pub rounds-smaller : (b b' : Board) (t : ℕ) (e : Entry) → t < 4 → IsBoardStep b b' t e → 4 * GREATEST_STAMP - total b'.terminals.items < 4 * GREATEST_STAMP - total b.terminals.items
 unfolding total
 rounds-smaller b b' zero e lt s =
     let more = own-rises b b' 0 e lt s in

@@ -1,5 +1,6 @@
 -- What a run is answered, and what it opens.
 use Rattle.std.specs.Prelude.{◌≡◌, ◌⊎◌, ℕ, ◌+◌, ◌≤◌, Option, Some, None, Result, Ok, Err, List, length}
+use Rattle.hv_text.specs.declared.limits.TheConstants.{MOST_LINES}
 use Rattle.hv_text.specs.Lines.{script_lines}
 use Rattle.hv_words.specs.Words.{commands_of}
 use Rattle.hv_refusal.specs.declared.refusal.Refusal.{Refusal}
@@ -26,7 +27,7 @@ pub record IsOpened (t t' : Terminal) (script : List (List ℕ)) (lines : ℕ) :
 
 -- a script that may be opened has its lines counted, and they fit beside those that the terminal opened
 abbrev pub MayOpen : ℕ → Result (List ℕ) Refusal → Option ℕ → Type 0
-MayOpen so_far (Ok bytes) lines = (lines ≡ Some (length (script_lines bytes))) × (so_far + length (script_lines bytes) ≤ 10000)
+MayOpen so_far (Ok bytes) lines = (lines ≡ Some (length (script_lines bytes))) × (so_far + length (script_lines bytes) ≤ MOST_LINES)
 MayOpen so_far (Err why) lines = Unit {0}
 
 -- a run that is answered by a script opens it, and another opens nothing

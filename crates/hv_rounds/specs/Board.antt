@@ -1,6 +1,7 @@
 -- The cells of a run, and what they mean in the abstract machine.
 use Rattle.std.specs.Prelude.{◌≡◌, ◌≢◌, ◌⊎◌, ℕ, ◌<◌, ◌≤◌, max, true, false, Option, Some, None, List, [], ◌∷◌, ◌++◌, map, Any, slice_index_or}
 use Rattle.std.specs.List.{AllByRecursion}
+use Rattle.hv_text.specs.declared.limits.TheConstants.{GREATEST_STAMP}
 use Rattle.hv_machine.specs.Machine.{State, state_after, IsRun}
 use Rattle.hv_event.specs.declared.event.ActorId.TheVariants.{Hart, Terminal}
 use Rattle.hv_event.specs.declared.event.CellId.TheVariants as component
@@ -11,7 +12,7 @@ use Rattle.hv_model.specs.Origin.{Origin}
 use Rattle.hv_model.specs.Cell.{Component, Actor}
 use Rattle.hv_model.specs.Terminal.{TerminalState, terminal_after}
 use Rattle.hv_model.specs.Rules.{machine}
-use Rattle.hv_model.specs.Legal.{greatest_stamp, terminal_at_start}
+use Rattle.hv_model.specs.Legal.{terminal_at_start}
 use Rattle.hv_model.specs.Rounds.{terminal_has_ended}
 use Rattle.hv_model.specs.Report.{IsTranscript, events_of}
 use Rattle.hv_rounds.specs.declared.terminal.Terminal.{Terminal as TerminalCell}
@@ -69,16 +70,17 @@ pub record Goes (O : Origin) (s : State (machine O)) (before made : List Entry) 
   pub run : IsRun (machine O) s made
   pub holds : Holds O (state_after (machine O) s made) b
   pub shown : (t : ℕ) (d : TerminalCell) → t < 4 → ShownAt O t (before ++ made) (at b t d)
-  pub in_range : AllByRecursion (λ e. e.event.stamp ≤ greatest_stamp) made
+  pub in_range : AllByRecursion (λ e. e.event.stamp ≤ GREATEST_STAMP) made
   pub by_terminals : AllByRecursion IsByTerminal made
   pub files_held : IsHeld (before ++ made) b.files.stamp
   pub held : (t : ℕ) (d : TerminalCell) → t < 4 → IsHeld (before ++ made) (at b t d).stamp
 
--- the last stamp was found by a step of some terminal
+-- the last stamp was found by the next step of some terminal, which has not ended
 pub record FoundLast (b : Board) (n : ℕ) : Type 0 where
-  pub last : n ≡ greatest_stamp
+  pub last : n ≡ GREATEST_STAMP
   pub terminal : ℕ
   pub is_one : terminal < 4
+  pub left : (d : TerminalCell) → terminal_has_ended (value_of (at b terminal d)) ≡ false
   pub found : (d : TerminalCell) → max (at b terminal d).stamp b.files.stamp ≡ n
 
 -- terminals from one number on have ended

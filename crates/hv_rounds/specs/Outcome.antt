@@ -1,14 +1,16 @@
 -- What a run in rounds leaves.
 use Rattle.std.specs.Prelude.{◌≡◌, ℕ, ◌<◌, ◌≤◌, Option, Some, None, Any}
+use Rattle.hv_text.specs.declared.limits.TheConstants.{GREATEST_STAMP, MOST_LINES, TERMINALS}
+use Rattle.hv_model.specs.declared.opening.Opening.{Opening}
 use Rattle.hv_model.specs.Origin.{Origin, terminals}
-use Rattle.hv_model.specs.Legal.{IsFinishedRun, IsStoppedRun, greatest_stamp, lines_at_start}
+use Rattle.hv_model.specs.Legal.{IsFinishedRun, IsStoppedRun, lines_among}
 use Rattle.hv_model.specs.Rounds.{IsRounds}
 use Rattle.hv_model.specs.Report.{AreTranscripts}
 use Rattle.hv_rounds.specs.declared.whole.Outcome.{Outcome}
 
 -- no terminal begins with more lines than its scripts may have
-abbrev pub LinesFit : Origin → Type 0
-LinesFit O = (t : ℕ) → t < 4 → lines_at_start O t ≤ 10000
+abbrev pub LinesFit : Opening → Type 0
+LinesFit opening = (t : ℕ) → t < TERMINALS → lines_among opening.scripts t ≤ MOST_LINES
 
 -- a run that came to its end: its history is finished and made in rounds, and these are its files and transcripts
 pub record IsFinished (O : Origin) (o : Outcome) : Type 0 where
@@ -19,7 +21,7 @@ pub record IsFinished (O : Origin) (o : Outcome) : Type 0 where
 -- a run that a step stopped whose greatest stamp was the last one: its history is legal and has an event of that stamp
 pub record IsSpent (O : Origin) (o : Outcome) (stamp : ℕ) : Type 0 where
   pub run : IsStoppedRun O o.history.items o.files
-  pub last : stamp ≡ greatest_stamp
+  pub last : stamp ≡ GREATEST_STAMP
   pub held : Any (λ e. e.stamp ≡ stamp) o.history.items
 
 -- a run ended, or it was stopped by its stamps

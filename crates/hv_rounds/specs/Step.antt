@@ -1,5 +1,6 @@
 -- One step of a terminal over the files.
 use Rattle.std.specs.Prelude.{◌≡◌, ℕ, ◌+◌, ◌^◌, ◌++◌, max, Option, Some, Result, Ok, Err, List, [], ◌∷◌}
+use Rattle.hv_text.specs.declared.limits.TheConstants.{GREATEST_STAMP}
 use Rattle.hv_event.specs.declared.event.ActorId.TheVariants as actor
 use Rattle.hv_event.specs.declared.event.CellId.{CellId}
 use Rattle.hv_step.specs.declared.step.Step.{Step}
@@ -80,7 +81,7 @@ IsBadLine line _ = ⊥
 
 -- a step is stopped by its stamp only where the greatest of two stamps is the last one
 abbrev pub SpentBy : {A : Type 0} → Result A Stop → ℕ → ℕ → Type 0
-SpentBy result one other = (n : ℕ) → result ≡ Err (stop.Spent n) → (n ≡ 2 ^ 62) × (max one other ≡ n)
+SpentBy result one other = (n : ℕ) → result ≡ Err (stop.Spent n) → (n ≡ GREATEST_STAMP) × (max one other ≡ n)
 
 -- the line gives a command with this step
 pub record IsAsked (line : List ℕ) (s : Step) : Type 0 where

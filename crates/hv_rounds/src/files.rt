@@ -1,5 +1,6 @@
 //! The files of a run.
 ghost use Rattle.std.specs.Prelude.{◌≡◌, ◌≤◌, ◌^◌};
+ghost use Rattle.hv_text.specs.declared.limits.TheConstants.{GREATEST_STAMP};
 
 use hv_files::FileTree;
 
@@ -8,13 +9,13 @@ use hv_files::FileTree;
 pub struct FileCell {
     pub tree: FileTree,
     pub stamp: u64,
-    ghost stamp_bounded: { stamp ≤ 2 ^ 62 },
+    ghost stamp_bounded: { stamp ≤ GREATEST_STAMP },
 }
 
 impl FileCell {
     /// Takes the stamp of a step that touched it.
     pub fn take_stamp(&mut self, stamp: u64)
-        requires { stamp ≤ 2 ^ 62 }
+        requires { stamp ≤ GREATEST_STAMP }
         ensures tree { self.new.tree ≡ self.old.tree }
         ensures stamp { self.new.stamp ≡ stamp }
     {

@@ -1,10 +1,12 @@
 //! A board at the start of a run.
-ghost use Rattle.std.specs.Prelude.{◌≡◌, ◌≤◌, ◌<◌, ◌==◌, ◌+◌, [], ◌∷◌, IfOk, if◌then◌else◌, slice_get, unwrap_or, length};
+ghost use Rattle.std.specs.Prelude.{List, ◌≡◌, ◌≤◌, ◌<◌, ◌==◌, ◌+◌, [], ◌∷◌, IfOk, if◌then◌else◌, slice_get, unwrap_or, length};
+ghost use Rattle.hv_text.specs.declared.limits.TheConstants.{MOST_LINES};
 ghost use Rattle.hv_text.specs.Lines.{script_lines};
 ghost use Rattle.hv_words.specs.Words.{commands_of};
-ghost use Rattle.hv_model.specs.Origin.{origin_of, boot_script, own_script};
+ghost use Rattle.hv_emu.specs.Device.{DevState};
+ghost use Rattle.hv_model.specs.Origin.{origin_of, boot_among, own_among};
 ghost use Rattle.hv_model.specs.Files.{load_files};
-ghost use Rattle.hv_model.specs.Legal.{boot_at_start, lines_at_start, terminal_at_start};
+ghost use Rattle.hv_model.specs.Legal.{lines_among, terminal_at_start};
 ghost use Rattle.hv_rounds.specs.Cells.{value_of, IsNew};
 ghost use Rattle.hv_rounds.specs.Phase.{BootPart};
 ghost use Rattle.hv_rounds.specs.Outcome.{LinesFit};
@@ -32,7 +34,7 @@ fn script_at(opening: &Opening, index: usize) -> &[u8]
 /// The own script of a terminal.
 fn own_bytes(opening: &Opening, number: u8) -> &[u8]
     requires { number < 4 }
-    ensures { result.now ≡ own_script (origin_of opening.now) number }
+    ensures { result.now ≡ own_among opening.now.scripts number }
 {
     script_at(opening, number as usize + 1)
 }
@@ -48,7 +50,7 @@ fn open_one(alloc: Global, bytes: &[u8]) -> Result<OpenScripts, AllocError>
 }
 
 fn open_boot(alloc: Global, opening: &Opening, number: u8) -> Result<OpenScripts, AllocError>
-    ensures { IfOk result (λ scripts. scripts ≡ boot_at_start (origin_of opening.now) number) }
+    ensures { IfOk result (λ scripts. scripts ≡ (if number == 0 then commands_of (boot_among opening.now.scripts) ∷ [] else [])) }
 {
     if number == 0 {
         return open_one(alloc, script_at(opening, 0));
@@ -57,7 +59,7 @@ fn open_boot(alloc: Global, opening: &Opening, number: u8) -> Result<OpenScripts
 }
 
 fn boot_lines(opening: &Opening, number: u8) -> usize
-    ensures { result ≡ (if number == 0 then length (script_lines (boot_script (origin_of opening.now))) else 0) }
+    ensures { result ≡ (if number == 0 then length (script_lines (boot_among opening.now.scripts)) else 0) }
 {
     if number == 0 {
         return count_lines(script_at(opening, 0));
@@ -68,8 +70,8 @@ fn boot_lines(opening: &Opening, number: u8) -> usize
 /// How many lines a terminal's scripts have at the start.
 fn lines_of(opening: &Opening, number: u8) -> u64
     requires is_one { number < 4 }
-    requires fit { lines_at_start (origin_of opening.now) number ≤ 10000 }
-    ensures { result ≡ lines_at_start (origin_of opening.now) number }
+    requires fit { lines_among opening.now.scripts number ≤ MOST_LINES }
+    ensures { result ≡ lines_among opening.now.scripts number }
 {
     let boot = boot_lines(opening, number);
     let own = count_lines(own_bytes(opening, number));
@@ -79,8 +81,8 @@ fn lines_of(opening: &Opening, number: u8) -> u64
 /// A terminal at the start.
 fn open_terminal(alloc: Global, opening: &Opening, number: u8) -> Result<Terminal, AllocError>
     requires is_one { number < 4 }
-    requires fit { lines_at_start (origin_of opening.now) number ≤ 10000 }
-    ensures value { IfOk result (λ t. value_of t ≡ terminal_at_start (origin_of opening.now) number) }
+    requires fit { lines_among opening.now.scripts number ≤ MOST_LINES }
+    ensures value { IfOk result (λ t. value_of t ≡ terminal_at_start (origin_of opening.now []) number) }
     ensures new { IfOk result (λ t. IsNew t number) }
 {
     let boot = open_boot(alloc, opening, number)?;
@@ -100,9 +102,10 @@ fn open_terminal(alloc: Global, opening: &Opening, number: u8) -> Result<Termina
 
 /// The board at the start.
 pub fn open_board(alloc: Global, opening: &Opening, files: FileTree) -> Result<Board, AllocError>
-    requires lines { LinesFit (origin_of opening.now) }
+    requires lines { LinesFit opening.now }
     requires files { files ≡ load_files opening.now.files }
-    ensures { IfOk result (λ board. BootPart (origin_of opening.now) [] board) }
+    ensures { IfOk result (λ board. (devices : List DevState)
+        → BootPart (origin_of opening.now devices) [] board) }
 {
     let mut terminals = Vec::new(alloc);
     let first = open_terminal(alloc, opening, 0)?;

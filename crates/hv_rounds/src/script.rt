@@ -1,18 +1,15 @@
 //! A script that is run.
 ghost use Rattle.std.specs.Prelude.{◌≡◌, ◌≢◌, ◌≤◌, ◌<◌, ◌+◌, ℕ, List, Ok, Err, Some, None, OnOk, nat_le, length};
+ghost use Rattle.hv_text.specs.declared.limits.TheConstants.{MOST_LINES, OPEN_SCRIPTS};
 ghost use Rattle.hv_words.specs.Words.{commands_of};
 ghost use Rattle.hv_model.specs.Terminal.{scripts_of, RunAnswers};
 ghost use Rattle.hv_rounds.specs.Answer.{AnswersScript, IsOpened, MayOpen, RunOpens};
 
 use crate::terminal::Terminal;
 use hv_event::Refusal;
-use hv_text::Bytes;
+use hv_text::{Bytes, MOST_LINES, OPEN_SCRIPTS};
 use hv_words::{Script, count_lines};
 use std::alloc::{AllocError, Global};
-
-const MOST_SCRIPTS: usize = 4;
-
-const MOST_LINES: u64 = 10_000;
 
 /// What a run is answered, and how many lines its script has, where there is one.
 #[derive(Drop)]
@@ -23,10 +20,10 @@ pub struct RunAnswer {
 
 /// What a run is answered, by what the files found.
 pub fn answer_run(found: Result<Bytes, Refusal>, depth: usize, so_far: u64) -> RunAnswer
-    requires bounded { so_far ≤ 10000 }
+    requires bounded { so_far ≤ MOST_LINES }
     requires not_deep { found ≢ Err Refusal.TooDeep }
     ensures found { AnswersScript found result.reply result.lines }
-    ensures answers { RunAnswers (nat_le 4 depth) so_far result.lines result.reply }
+    ensures answers { RunAnswers (nat_le OPEN_SCRIPTS depth) so_far result.lines result.reply }
     ensures opens { MayOpen so_far result.reply result.lines }
 {
     let script = match found {
@@ -34,9 +31,9 @@ pub fn answer_run(found: Result<Bytes, Refusal>, depth: usize, so_far: u64) -> R
         Err(why) => return answer_missing(why, depth),
     };
     let lines = count_lines(script.as_slice()) as u64;
-    let reply = if depth >= MOST_SCRIPTS {
+    let reply = if depth >= OPEN_SCRIPTS {
         Err(Refusal::TooDeep)
-    } else if lines > MOST_LINES - so_far {
+    } else if lines > MOST_LINES as u64 - so_far {
         Err(Refusal::TooLong)
     } else {
         Ok(script)
@@ -50,9 +47,9 @@ pub fn answer_run(found: Result<Bytes, Refusal>, depth: usize, so_far: u64) -> R
 fn answer_missing(why: Refusal, depth: usize) -> RunAnswer
     requires not_deep { why ≢ Refusal.TooDeep }
     ensures found { AnswersScript (Err why) result.reply result.lines }
-    ensures answers { (so_far : ℕ) → RunAnswers (nat_le 4 depth) so_far result.lines result.reply }
+    ensures answers { (so_far : ℕ) → RunAnswers (nat_le OPEN_SCRIPTS depth) so_far result.lines result.reply }
 {
-    let reply = if depth >= MOST_SCRIPTS {
+    let reply = if depth >= OPEN_SCRIPTS {
         Err(Refusal::TooDeep)
     } else {
         Err(why)
@@ -73,7 +70,7 @@ impl Terminal {
 
     /// Opens a script within the command's.
     pub fn open(&mut self, alloc: Global, script: &[u8], lines: u64) -> Result<(), AllocError>
-        requires { self.old.lines + lines ≤ 10000 }
+        requires { self.old.lines + lines ≤ MOST_LINES }
         ensures ok { OnOk result (IsOpened self.old self.new (commands_of script.now) lines) }
         ensures shown { self.new.shown ≡ self.old.shown }
     {

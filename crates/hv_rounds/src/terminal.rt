@@ -1,15 +1,13 @@
 //! A terminal of a run.
 ghost use Rattle.std.specs.Prelude.{◌≡◌, ◌≤◌, ◌<◌, ◌+◌, ◌^◌, ◌↔◌, ℕ, max, Some, None, Err, IfOk, OnOk, IsTrue, false};
+ghost use Rattle.hv_text.specs.declared.limits.TheConstants.{GREATEST_STAMP, MOST_LINES};
 
 use crate::scripts::OpenScripts;
 use crate::stop::Stop;
 use hv_event::{ActorId, Event, Reply, Step};
 use hv_model::{Carry, Entry};
-use hv_text::Bytes;
+use hv_text::{Bytes, GREATEST_STAMP};
 use std::alloc::{AllocError, Global};
-
-/// The greatest stamp that an event may have.
-pub const LAST_STAMP: u64 = 1 << 62;
 
 /// A terminal: where its program stands, its stamp, and what it has shown.
 #[derive(Drop)]
@@ -29,21 +27,21 @@ pub struct Terminal {
     pub lines: u64,
     /// Its transcript.
     pub shown: Bytes,
-    ghost lines_bounded: { lines ≤ 10000 },
+    ghost lines_bounded: { lines ≤ MOST_LINES },
     ghost count_bounded: { count ≤ stamp },
-    ghost stamp_bounded: { stamp ≤ 2 ^ 62 },
+    ghost stamp_bounded: { stamp ≤ GREATEST_STAMP },
 }
 
 /// The stamp of a step that touches what has these stamps.
 pub fn next_stamp(one: u64, other: u64) -> Result<u64, Stop>
-    requires one { one ≤ 2 ^ 62 }
-    requires other { other ≤ 2 ^ 62 }
+    requires one { one ≤ GREATEST_STAMP }
+    requires other { other ≤ GREATEST_STAMP }
     ensures ok { IfOk result (λ stamp. stamp ≡ max one other + 1) }
-    ensures in_range { IfOk result (λ stamp. stamp ≤ 2 ^ 62) }
-    ensures spent { (n : ℕ) → result ≡ Err (Stop.Spent n) → (n ≡ 2 ^ 62) × (max one other ≡ n) }
+    ensures in_range { IfOk result (λ stamp. stamp ≤ GREATEST_STAMP) }
+    ensures spent { (n : ℕ) → result ≡ Err (Stop.Spent n) → (n ≡ GREATEST_STAMP) × (max one other ≡ n) }
 {
     let greatest = one.max(other);
-    if greatest == LAST_STAMP {
+    if greatest == GREATEST_STAMP {
         return Err(Stop::Spent(greatest));
     }
     Ok(greatest + 1)
@@ -89,7 +87,7 @@ impl Terminal {
     /// The entry of its next event, which it then has made.
     pub fn make(&mut self, stamp: u64, step: Step, reply: Reply, lines: Option<u64>) -> Entry
         requires later { self.old.stamp < stamp }
-        requires in_range { stamp ≤ 2 ^ 62 }
+        requires in_range { stamp ≤ GREATEST_STAMP }
         ensures entry { Makes self.old.number (self.old.count + 1) stamp step reply lines result }
         ensures rest { MadeOne self.old self.new stamp }
     {
@@ -110,7 +108,7 @@ impl Terminal {
     /// Takes a stamp to begin with.
     pub fn begin_at(&mut self, stamp: u64)
         requires counted { self.old.count ≤ stamp }
-        requires in_range { stamp ≤ 2 ^ 62 }
+        requires in_range { stamp ≤ GREATEST_STAMP }
         ensures { BeginsAt self.old self.new stamp }
     {
         self.stamp = stamp;

@@ -2,10 +2,10 @@
 use crate::files::FileCell;
 use crate::scripts::OpenScripts;
 use crate::stop::Stop;
-use crate::terminal::{LAST_STAMP, Terminal};
+use crate::terminal::Terminal;
 use crate::turn::take_step;
 use hv_files::FileTree;
-use hv_text::Bytes;
+use hv_text::{Bytes, GREATEST_STAMP};
 use std::test::Fail;
 
 #[test]
@@ -18,7 +18,7 @@ fn makes_no_event_past_the_last_stamp(rt: HostRuntime) -> Result<(), Fail> {
     let mut terminal = Terminal {
         number: 1,
         count: 7,
-        stamp: LAST_STAMP,
+        stamp: GREATEST_STAMP,
         rests: 2,
         boot: OpenScripts::new(alloc),
         own: OpenScripts::new(alloc),
@@ -26,7 +26,7 @@ fn makes_no_event_past_the_last_stamp(rt: HostRuntime) -> Result<(), Fail> {
         shown: Bytes::from_vec(Vec::new(alloc)),
     };
     let made = take_step(alloc, &mut files, &mut terminal);
-    assert!(rt; matches!(made, Err(Stop::Spent(LAST_STAMP))));
+    assert!(rt; matches!(made, Err(Stop::Spent(GREATEST_STAMP))));
     assert_eq!(rt; terminal.count, 7);
     Ok(())
 }

@@ -1,6 +1,7 @@
 //! The whole run.
-ghost use Rattle.std.specs.Prelude.{◌≡◌, ◌++◌, map, IfOk};
+ghost use Rattle.std.specs.Prelude.{List, ◌≡◌, ◌++◌, map, IfOk};
 ghost use Rattle.hv_merge.specs.Merging.{AreLogs, IsMergeOf};
+ghost use Rattle.hv_emu.specs.Device.{DevState};
 ghost use Rattle.hv_model.specs.Origin.{origin_of};
 ghost use Rattle.hv_model.specs.Files.{load_files};
 ghost use Rattle.hv_rounds.specs.Close.{logs_of, Closes};
@@ -100,8 +101,10 @@ fn run_on(
     boot: Vec<Entry>,
 ) -> Result<Outcome, AllocError>
     requires turns { opening.now.turns ≡ 0 }
-    requires booted { IsBooted (origin_of opening.now) boot.items board }
-    ensures { IfOk result (λ o. IsOutcome (origin_of opening.now) o o.spent) }
+    requires booted { (devices : List DevState)
+        → IsBooted (origin_of opening.now devices) boot.items board }
+    ensures { IfOk result (λ o. (devices : List DevState)
+        → IsOutcome (origin_of opening.now devices) o o.spent) }
 {
     let mut board = board;
     board.begin_together();
@@ -112,9 +115,10 @@ fn run_on(
 /// Runs the scripts of an opening: Terminal 0 its boot script, and then all terminals in rounds.
 pub fn run(alloc: Global, opening: &Opening, files: FileTree) -> Result<Outcome, AllocError>
     requires turns { opening.now.turns ≡ 0 }
-    requires lines { LinesFit (origin_of opening.now) }
+    requires lines { LinesFit opening.now }
     requires files { files ≡ load_files opening.now.files }
-    ensures { IfOk result (λ o. IsOutcome (origin_of opening.now) o o.spent) }
+    ensures { IfOk result (λ o. (devices : List DevState)
+        → IsOutcome (origin_of opening.now devices) o o.spent) }
 {
     let mut board = open_board(alloc, opening, files)?;
     let boot = run_boot(alloc, &mut board)?;

@@ -4,15 +4,15 @@ use Rattle.std.specs.List.{slice_split, onto_first}
 use Rattle.std.specs.Str.Lines.{lines_of_parts}
 use Rattle.std.proofs.lemmas.List.{drop_all}
 use Rattle.std.proofs.lemmas.List.Splits.{slice_split-cons_yes, slice_split-cons_no}
+use Rattle.hv_text.specs.declared.limits.TheConstants.{MOST_LINES}
 use Rattle.hv_text.specs.Lines.{script_lines}
 use Rattle.hv_bundle.specs.declared.file.File.{File}
 use Rattle.hv_model.specs.declared.opening.Opening.{Opening}
-use Rattle.hv_model.specs.Origin.{origin_of}
 use Rattle.hv_model.specs.Files.{load_files}
 use Rattle.hv_rounds.specs.Outcome.{LinesFit}
 use Rattle.hv_model.specs.Legal.{lines_among}
 use Rattle.xvsim.specs.Opening.{scripts_of}
-use Rattle.xvsim.specs.Limits.{greatest, depth_of, lines_of, greatest_lines, most_lines}
+use Rattle.xvsim.specs.Limits.{greatest, depth_of, lines_of, greatest_lines}
 
 suc_one : (i : ℕ) → suc i ≡ i + 1
 suc_one i = omega arith
@@ -79,9 +79,9 @@ each_below files most (suc (suc zero)) le lt = omega arith
 each_below files most (suc (suc (suc zero))) le lt = omega arith
 each_below files most (suc (suc (suc (suc t)))) le lt = absurd (omega arith)
 
-pub lines_fit : (files : List File) (o : Opening) → o.scripts ≡ scripts_of (load_files files) → greatest_lines files ≤ most_lines → LinesFit (origin_of o)
+pub lines_fit : (files : List File) (o : Opening) → o.scripts ≡ scripts_of (load_files files) → greatest_lines files ≤ MOST_LINES → LinesFit o
 unfolding lines_of
-lines_fit files o is le = subst (λ (scripts : List (List ℕ)). (t : ℕ) → t < 4 → lines_among scripts t ≤ 10000) (sym is) (λ t lt. each_below files most_lines t le lt)
+lines_fit files o is le = subst (λ (scripts : List (List ℕ)). (t : ℕ) → t < 4 → lines_among scripts t ≤ MOST_LINES) (sym is) (λ t lt. each_below files MOST_LINES t le lt)
 
 greatest_of_four : (a b c d : ℕ) → greatest (a ∷ b ∷ c ∷ d ∷ []) ≡ max a (max b (max c d))
 greatest_of_four a b c d = let last : max d 0 ≡ d = omega arith in ap (λ n. max a (max b (max c n))) last

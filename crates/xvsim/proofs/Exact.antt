@@ -1,6 +1,6 @@
 -- For each input one answer is due, but for those of a good input and those of any.
 use Rattle.std.proofs.Common.{◌≡◌, ℕ, ◌+◌, ◌<◌, ◌≤◌, List, Option, Some, None, inl, inr, length, refl, sym, ap, subst, ◌∙◌, arith}
-use Rattle.std.specs.Prelude.{IfSome, Err}
+use Rattle.std.specs.Prelude.{IfSome, Err, codes, [], ◌∷◌}
 use Rattle.hv_kinds.specs.declared.limit.LimitName.{LimitName}
 use Rattle.hv_kinds.specs.declared.limit.LimitName.TheVariants as limit
 use Rattle.hv_bundle.specs.declared.file.File.{File}
@@ -11,11 +11,13 @@ use Rattle.hv_host.specs.declared.refusal.BoardRefusal.{BoardRefusal}
 use Rattle.hv_host.specs.declared.refusal.BoardRefusal.TheVariants as board
 use Rattle.hv_host.specs.Boards.{Says, IsWantOfMemory, AreOneRefusal}
 use Rattle.hv_host.proofs.Said.{no_refusal, one_refusal}
+use Rattle.xvsim.proofs.Told.{due_here}
 use Rattle.xvsim.specs.Words.{AreWords}
 use Rattle.xvsim.specs.Opening.{host_text}
-use Rattle.xvsim.specs.Limits.{most_bytes, PassesOwnLimit, own, host, AreWithinLimits, IsInput, AreGood}
+use Rattle.xvsim.specs.declared.limits.TheConstants.{MOST_BYTES}
+use Rattle.xvsim.specs.Limits.{PassesOwnLimit, own, host, AreWithinLimits, IsInput, AreGood}
 use Rattle.xvsim.specs.Refusal.{IsDueForFiles, IsDueForBytes, status_of}
-use Rattle.xvsim.specs.Due.{AreGoodBytes, IsDue, IsOfAny, IsOfGood, IsAnswerFor, same, both_good, came_to_any, due_to_any}
+use Rattle.xvsim.specs.Due.{AreGoodBytes, IsDue, IsDueStatus, IsOfAny, IsOfGood, IsAnswerFor, same, both_good, came_to_any, due_to_any}
 use Rattle.xvsim.specs.declared.refusal.InputRefusal.{InputRefusal}
 use Rattle.xvsim.specs.declared.refusal.InputRefusal.TheVariants as refusal
 use Rattle.xvsim.specs.declared.status.Status.{Status}
@@ -92,11 +94,11 @@ no_reason files why good (by_host it within says some is) = some (no_refusal (ho
 
 -- why bytes are refused: there are too many, or they are no bundle, or what stands inside is refused
 data Finding (bytes : List ℕ) (why : InputRefusal) : Type 0 where
-  too_many : most_bytes < length bytes → why ≡ refusal.Limit limit.Bytes (most_bytes + 1) → Finding bytes why
-  no_bundle : (offset : ℕ) → length bytes ≤ most_bytes → IsBadAt bytes offset → why ≡ refusal.BadBundle offset → Finding bytes why
+  too_many : MOST_BYTES < length bytes → why ≡ refusal.Limit limit.Bytes (MOST_BYTES + 1) → Finding bytes why
+  no_bundle : (offset : ℕ) → length bytes ≤ MOST_BYTES → IsBadAt bytes offset → why ≡ refusal.BadBundle offset → Finding bytes why
   inside : (files : List File) → IsInput bytes files → Reason files why → Finding bytes why
 
-limits_are : (name : LimitName) (number : ℕ) → name ≡ limit.Bytes → number ≡ most_bytes + 1 → refusal.Limit name number ≡ refusal.Limit limit.Bytes (most_bytes + 1)
+limits_are : (name : LimitName) (number : ℕ) → name ≡ limit.Bytes → number ≡ MOST_BYTES + 1 → refusal.Limit name number ≡ refusal.Limit limit.Bytes (MOST_BYTES + 1)
 limits_are name number e f = ap (λ (n : LimitName). refusal.Limit n number) e ∙ ap (refusal.Limit limit.Bytes) f
 
 finding_of : (bytes : List ℕ) (why : InputRefusal) → IsOwn why → IsDueForBytes bytes why → Finding bytes why
@@ -111,7 +113,7 @@ finding_of bytes (refusal.Memory e) is due = absurd is
 same_files : (bytes : List ℕ) (files others : List File) → IsInput bytes files → IsInput bytes others → files ≡ others
 same_files bytes files others one other = one_reading bytes files others one.bundle other.bundle
 
-too_few : (bytes : List ℕ) → most_bytes < length bytes → length bytes ≤ most_bytes → ⊥
+too_few : (bytes : List ℕ) → MOST_BYTES < length bytes → length bytes ≤ MOST_BYTES → ⊥
 too_few bytes many few = omega (arith, many, few)
 
 -- bytes are refused for one finding
@@ -173,3 +175,31 @@ one_verdict words bytes one other (of_good good of bytes_good) (of_good fine of'
 pub exact_of : (words : List (List ℕ)) (told : Option (List ℕ)) (came : Status) → IfSome told (λ bytes. IsDue words bytes came) → IfSome told (λ bytes. (due : Status) → IsDue words bytes due → IsAnswerFor came due)
 exact_of words None came h = tt
 exact_of words (Some bytes) came h = λ due it. one_verdict words bytes came due (verdict_of words bytes came h) (verdict_of words bytes due it)
+
+-- the words of a run
+run_words : List (List ℕ)
+run_words = codes "run" ∷ codes "--turns" ∷ codes "0" ∷ codes "--order" ∷ codes "seq" ∷ []
+
+verdict_here : (bytes : List ℕ) (s : Status) → IsDueStatus bytes s → Verdict run_words bytes s
+unfolding run_words
+verdict_here bytes s due = verdict_of run_words bytes s (due_here run_words bytes s (inl refl) (λ stamp is. refl) due)
+
+-- the same where the words name a command
+pub exact_status : (told : Option (List ℕ)) (came : Status) → IfSome told (λ bytes. IsDueStatus bytes came) → IfSome told (λ bytes. (due : Status) → IsDueStatus bytes due → IsAnswerFor came due)
+exact_status None came h = tt
+exact_status (Some bytes) came h = λ due it. one_verdict run_words bytes came due (verdict_here bytes came h) (verdict_here bytes due it)
+
+-- a refusal that is due for the bytes is one as a status
+pub due_status : (told : Option (List ℕ)) (why : InputRefusal) → IfSome told (λ bytes. IsDueForBytes bytes why) → IfSome told (λ bytes. IsDueStatus bytes (status_of why))
+due_status None why h = tt
+due_status (Some bytes) refusal.ReadFault h = tt
+due_status (Some bytes) (refusal.BadBundle offset) h = h
+due_status (Some bytes) (refusal.Limit name number) h = h
+due_status (Some bytes) (refusal.BadTree offset) h = h
+due_status (Some bytes) (refusal.BadHost path) h = h
+due_status (Some bytes) (refusal.Memory e) h = tt
+
+-- an answer that any input may get is one for each answer that is due
+pub exact_any : (told : Option (List ℕ)) (came : Status) → IsOfAny came → IfSome told (λ bytes. (due : Status) → IsDueStatus bytes due → IsAnswerFor came due)
+exact_any None came any = tt
+exact_any (Some bytes) came any = λ due it. came_to_any any

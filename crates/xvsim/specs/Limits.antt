@@ -1,6 +1,8 @@
 -- How much a bundle may have.
 use Rattle.std.specs.Prelude.{◌≡◌, ℕ, ◌<◌, ◌≤◌, max, List, [], ◌∷◌, length, map, Err}
 use Rattle.hv_kinds.specs.declared.limit.LimitName.{LimitName}
+use Rattle.hv_text.specs.declared.limits.TheConstants.{MOST_LINES}
+use Rattle.xvsim.specs.declared.limits.TheConstants.{MOST_BYTES, MOST_FILES, MOST_NAMES}
 use Rattle.hv_kinds.specs.declared.limit.LimitName.TheVariants as limit
 use Rattle.hv_bundle.specs.declared.file.File.{File}
 use Rattle.hv_bundle.specs.Bundle.{IsBundle}
@@ -11,22 +13,6 @@ use Rattle.hv_model.specs.Origin.{terminals}
 use Rattle.hv_model.specs.Files.{load_files}
 use Rattle.hv_model.specs.Legal.{lines_among}
 use Rattle.xvsim.specs.Opening.{scripts_of, host_text, HaveBoard}
-
--- at most so many bytes in a bundle
-abbrev pub most_bytes : ℕ
-most_bytes = 67108864
-
--- at most so many files
-abbrev pub most_files : ℕ
-most_files = 1024
-
--- at most so many names in a file's path
-abbrev pub most_names : ℕ
-most_names = 8
-
--- at most so many lines in the scripts that a terminal begins with
-abbrev pub most_lines : ℕ
-most_lines = 10000
 
 -- the greatest of some numbers, and 0 of none
 abbrev pub greatest : List ℕ → ℕ
@@ -47,16 +33,16 @@ greatest_lines files = greatest (map (lines_of files) terminals)
 
 -- the files pass no limit
 pub record AreWithinLimits (files : List File) : Type 0 where
-  pub few : length files ≤ most_files
-  pub shallow : depth_of files ≤ most_names
-  pub short : greatest_lines files ≤ most_lines
+  pub few : length files ≤ MOST_FILES
+  pub shallow : depth_of files ≤ MOST_NAMES
+  pub short : greatest_lines files ≤ MOST_LINES
 
 -- of the limits that the files pass by themselves, this is the first one, with the number that passes it
 abbrev pub PassesOwnLimit : List File → LimitName → ℕ → Type 0
-PassesOwnLimit files limit.Files number = (number ≡ length files) × (most_files < number)
-PassesOwnLimit files limit.Depth number = (length files ≤ most_files) × (number ≡ depth_of files) × (most_names < number)
+PassesOwnLimit files limit.Files number = (number ≡ length files) × (MOST_FILES < number)
+PassesOwnLimit files limit.Depth number = (length files ≤ MOST_FILES) × (number ≡ depth_of files) × (MOST_NAMES < number)
 PassesOwnLimit files limit.Lines number =
-    (length files ≤ most_files) × (depth_of files ≤ most_names) × (number ≡ greatest_lines files) × (most_lines < number)
+    (length files ≤ MOST_FILES) × (depth_of files ≤ MOST_NAMES) × (number ≡ greatest_lines files) × (MOST_LINES < number)
 PassesOwnLimit files _ number = ⊥
 
 -- the same, and where they pass none, of those that their host tree passes
@@ -66,7 +52,7 @@ pub data PassesLimit (files : List File) (name : LimitName) (number : ℕ) : Typ
 
 -- the bytes are few enough, and the bundle of these files
 pub record IsInput (bytes : List ℕ) (files : List File) : Type 0 where
-  pub size : length bytes ≤ most_bytes
+  pub size : length bytes ≤ MOST_BYTES
   pub bundle : IsBundle bytes files
 
 -- the files are within the limits, and have a board

@@ -7,7 +7,8 @@ use Rattle.hv_bundle.specs.Bundle.{IsBadAt}
 use Rattle.hv_host.specs.declared.refusal.BoardRefusal.TheVariants as board
 use Rattle.hv_host.specs.Boards.{Says}
 use Rattle.xvsim.specs.Opening.{host_text}
-use Rattle.xvsim.specs.Limits.{most_bytes, IsInput, PassesLimit, AreWithinLimits}
+use Rattle.xvsim.specs.declared.limits.TheConstants.{MOST_BYTES}
+use Rattle.xvsim.specs.Limits.{IsInput, PassesLimit, AreWithinLimits}
 use Rattle.xvsim.specs.declared.refusal.InputRefusal.{InputRefusal}
 use Rattle.xvsim.specs.declared.refusal.InputRefusal.TheVariants as refusal
 use Rattle.xvsim.specs.declared.status.Status.{Status}
@@ -31,8 +32,8 @@ pub record IsDueInside (bytes : List ℕ) (why : InputRefusal) : Type 0 where
 -- there are too many bytes, and one more than may be was read
 pub record AreTooManyBytes (bytes : List ℕ) (name : LimitName) (number : ℕ) : Type 0 where
   pub name_is : name ≡ limit.Bytes
-  pub many : most_bytes < length bytes
-  pub number_is : number ≡ most_bytes + 1
+  pub many : MOST_BYTES < length bytes
+  pub number_is : number ≡ MOST_BYTES + 1
 
 -- the bytes pass this limit with this number, and no earlier one
 abbrev pub IsOverLimit : List ℕ → LimitName → ℕ → Type 0
@@ -41,7 +42,7 @@ IsOverLimit bytes name number = AreTooManyBytes bytes name number ⊎ IsDueInsid
 -- what the bytes have to be for a refusal, if it is no fault and no want of memory
 abbrev pub IsDueForBytes : List ℕ → InputRefusal → Type 0
 IsDueForBytes bytes refusal.ReadFault = Unit {0}
-IsDueForBytes bytes (refusal.BadBundle offset) = (length bytes ≤ most_bytes) × IsBadAt bytes offset
+IsDueForBytes bytes (refusal.BadBundle offset) = (length bytes ≤ MOST_BYTES) × IsBadAt bytes offset
 IsDueForBytes bytes (refusal.Limit name number) = IsOverLimit bytes name number
 IsDueForBytes bytes (refusal.BadTree offset) = IsDueInside bytes (refusal.BadTree offset)
 IsDueForBytes bytes (refusal.BadHost path) = IsDueInside bytes (refusal.BadHost path)

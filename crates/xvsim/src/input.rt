@@ -12,7 +12,7 @@ ghost use Rattle.xvsim.specs.Limits.{AreWithinLimits};
 ghost use Rattle.xvsim.specs.Refusal.{IsDueForFiles, IsDueForBytes};
 ghost use Rattle.xvsim.specs.Input.{IsWhole, IsAllOf};
 
-use crate::limits::{check_lines, check_sizes};
+use crate::limits::{MOST_BYTES, check_lines, check_sizes};
 use crate::refusal::InputRefusal;
 use hv_base::{ReadEnd, Source, read_all};
 use hv_bundle::{BundleRefusal, File, read_bundle};
@@ -22,8 +22,6 @@ use hv_kinds::LimitName;
 use hv_load::load_tree;
 use hv_text::{Bytes, Path};
 use std::alloc::{AllocError, Global};
-
-const MOST_BYTES: usize = 67_108_864;
 
 /// A bundle that is read.
 #[derive(Drop)]
@@ -146,7 +144,7 @@ pub fn read_input<S: Source>(alloc: Global, source: &mut S) -> Result<Input, Inp
         Ok(bytes) => bytes,
         Err(ReadEnd::Fault) => return Err(InputRefusal::ReadFault),
         Err(ReadEnd::TooMany) => {
-            return Err(InputRefusal::Limit(LimitName::Bytes, 67_108_865));
+            return Err(InputRefusal::Limit(LimitName::Bytes, MOST_BYTES as u64 + 1));
         }
         Err(ReadEnd::Memory(error)) => return Err(InputRefusal::Memory(error)),
     };

@@ -15,7 +15,7 @@ mod status;
 mod top;
 mod words;
 
-pub use kept::{Final, Kept, KeptRun};
+pub use kept::{Final, Kept, KeptOf, KeptRun, KeptRunOf};
 pub use status::Status;
 pub use top::{check_bundle, xvsim};
 

@@ -4,20 +4,23 @@ ghost use Rattle.hv_text.specs.Lines.{script_lines};
 ghost use Rattle.hv_bundle.specs.declared.file.File.{File};
 ghost use Rattle.hv_model.specs.Files.{load_files};
 ghost use Rattle.xvsim.specs.Opening.{scripts_of};
-ghost use Rattle.xvsim.specs.Limits.{most_files, most_names, most_lines, depth_of, greatest_lines};
+ghost use Rattle.hv_text.specs.declared.limits.TheConstants.{MOST_LINES};
+ghost use Rattle.xvsim.specs.declared.limits.TheConstants.{MOST_FILES, MOST_NAMES};
+ghost use Rattle.xvsim.specs.Limits.{depth_of, greatest_lines};
 ghost use Rattle.xvsim.specs.Refusal.{IsDueForFiles};
 
 use crate::refusal::InputRefusal;
 use hv_bundle::File;
 use hv_kinds::LimitName;
-use hv_text::Bytes;
+use hv_text::{Bytes, MOST_LINES};
 use hv_words::count_lines;
 
-const MOST_FILES: usize = 1024;
-
-const MOST_NAMES: usize = 8;
-
-const MOST_LINES: usize = 10_000;
+/// The most bytes of a bundle.
+pub const MOST_BYTES: usize = 67_108_864;
+/// The most files of a bundle.
+pub const MOST_FILES: usize = 1024;
+/// The most names of a file's path.
+pub const MOST_NAMES: usize = 8;
 
 /// How many names the longest path has.
 fn depth(files: &[File]) -> usize
@@ -32,8 +35,8 @@ fn depth(files: &[File]) -> usize
 
 /// Refuses too many files, and too many names in a path.
 pub fn check_sizes(files: &[File]) -> Result<(), InputRefusal>
-    ensures few { OnOk result (length files.now ≤ most_files) }
-    ensures shallow { OnOk result (depth_of files.now ≤ most_names) }
+    ensures few { OnOk result (length files.now ≤ MOST_FILES) }
+    ensures shallow { OnOk result (depth_of files.now ≤ MOST_NAMES) }
     ensures refused { IfErr result (IsDueForFiles files.now) }
 {
     if files.len() > MOST_FILES {
@@ -77,10 +80,10 @@ fn most_of(scripts: &[Bytes]) -> usize
 
 /// Refuses too many lines of a terminal, where the sizes are within their limits.
 pub fn check_lines(files: &[File], scripts: &[Bytes]) -> Result<(), InputRefusal>
-    requires few { length files.now ≤ most_files }
-    requires shallow { depth_of files.now ≤ most_names }
+    requires few { length files.now ≤ MOST_FILES }
+    requires shallow { depth_of files.now ≤ MOST_NAMES }
     requires scripts { scripts.now ≡ scripts_of (load_files files.now) }
-    ensures short { OnOk result (greatest_lines files.now ≤ most_lines) }
+    ensures short { OnOk result (greatest_lines files.now ≤ MOST_LINES) }
     ensures refused { IfErr result (IsDueForFiles files.now) }
 {
     let most = most_of(scripts);

@@ -1,20 +1,20 @@
 //! The report of a run.
-ghost use Rattle.std.specs.Prelude.{◌≡◌, ◌++◌, [], length, OnOk, IfOk, codes, false, unwrap_or, slice_get};
+ghost use Rattle.std.specs.Prelude.{List, ◌≡◌, ◌++◌, [], length, OnOk, IfOk, codes, false, unwrap_or, slice_get};
 ghost use Rattle.std.specs.List.{flat_map};
 ghost use Rattle.std.specs.Fmt.{decimal};
+ghost use Rattle.hv_emu.specs.Device.{DevState};
 ghost use Rattle.hv_event.specs.Line.{event_text};
 ghost use Rattle.hv_model.specs.Origin.{origin_of, terminals};
-ghost use Rattle.hv_model.specs.Report.{line, titled, terminals_text, heading, AreTranscripts};
-ghost use Rattle.xvsim.specs.Run.{IsReportOf};
+ghost use Rattle.hv_model.specs.Report.{line, titled, terminals_text, heading, AreTranscripts, IsReport};
 
-use crate::kept::KeptRun;
 use hv_event::{Event, print_event};
 use hv_model::Opening;
 use hv_text::{Bytes, Strings, push_decimal};
 use std::alloc::{AllocError, Global};
 
 fn push_heading(alloc: Global, to: &mut Bytes, opening: &Opening) -> Result<(), AllocError>
-    ensures { OnOk result (to.new ≡ to.old ++ heading (origin_of opening.now) false) }
+    ensures { (devices : List DevState)
+        → OnOk result (to.new ≡ to.old ++ heading (origin_of opening.now devices) false) }
 {
     to.append(b"xvsim 1\nharts ")?;
     push_decimal(alloc, to, opening.harts as u64)?;
@@ -68,23 +68,25 @@ fn push_events(alloc: Global, to: &mut Bytes, events: &[Event]) -> Result<(), Al
     Ok(())
 }
 
-/// The report of a run, of which these are the terminals' transcripts.
+/// The report of a run with this opening and history, of which these are the terminals' transcripts.
 pub fn report_of_run(
     alloc: Global,
-    run: &KeptRun,
+    opening: &Opening,
+    history: &[Event],
     transcripts: &Strings,
 ) -> Result<Bytes, AllocError>
-    requires { AreTranscripts (origin_of run.now.opening) run.now.history.items
-        terminals transcripts.now }
-    ensures { IfOk result (IsReportOf run.now) }
+    requires { (devices : List DevState)
+        → AreTranscripts (origin_of opening.now devices) history.now terminals transcripts.now }
+    ensures { IfOk result (λ text. (devices : List DevState)
+        → IsReport (origin_of opening.now devices) history.now false false text) }
 {
     let mut to = Bytes::from_vec(Vec::new(alloc));
-    push_heading(alloc, &mut to, &run.opening)?;
+    push_heading(alloc, &mut to, opening)?;
     push_terminals(alloc, &mut to, transcripts)?;
     to.append(b"states\nvcpu 0 Reset\nhistory\n")?;
-    push_events(alloc, &mut to, &run.history)?;
+    push_events(alloc, &mut to, history)?;
     to.append(b"end ")?;
-    push_decimal(alloc, &mut to, run.history.len() as u64)?;
+    push_decimal(alloc, &mut to, history.len() as u64)?;
     to.append(b"\n")?;
     Ok(to)
 }

@@ -7,8 +7,9 @@ ghost use Rattle.xvsim.specs.Input.{IsWhole};
 ghost use Rattle.xvsim.specs.Made.{IsMadeFrom};
 
 use crate::input::Input;
-use crate::kept::{Final, KeptRun};
+use crate::kept::{Final, KeptRunOf};
 use crate::report::report_of_run;
+use hv_emu::Emulator;
 use hv_files::FileTree;
 use hv_host::Board;
 use hv_model::Opening;
@@ -26,9 +27,9 @@ pub struct Start {
 
 /// What came of a run: it was finished, and this is its report, or it was stopped at this stamp.
 #[derive(Drop)]
-pub enum Made {
-    Finished(KeptRun, Bytes),
-    Stopped(KeptRun, u64),
+pub enum Made<E> {
+    Finished(KeptRunOf<E>, Bytes),
+    Stopped(KeptRunOf<E>, u64),
 }
 
 /// What a run of an input begins with.
@@ -64,11 +65,15 @@ fn start_of(input: Input) -> Start
     }
 }
 
-/// Runs the scripts of an input.
-pub fn make_run(alloc: Global, input: Input) -> Result<Made, AllocError>
+/// Runs the scripts of an input, with these emulators.
+pub fn make_run<E: Emulator>(
+    alloc: Global,
+    input: Input,
+    parts: Vec<E>,
+) -> Result<Made<E>, AllocError>
     requires { IsWhole input }
     ensures { IfOk result (λ made. (o : Opening)
-        × IsOpeningOf input.files.items o × IsMadeFrom o made) }
+        × IsOpeningOf input.files.items o × IsMadeFrom E.state parts.items o made) }
 {
     let Start { opening, files } = start_of(input);
     let Outcome {
@@ -77,15 +82,16 @@ pub fn make_run(alloc: Global, input: Input) -> Result<Made, AllocError>
         transcripts,
         spent,
     } = run(alloc, &opening, files)?;
-    let run = KeptRun {
+    let run = KeptRunOf {
         opening,
         history,
         state: Final { files },
+        shelf: parts,
     };
     match spent {
         Some(stamp) => Ok(Made::Stopped(run, stamp)),
         None => {
-            let report = report_of_run(alloc, &run, &transcripts)?;
+            let report = report_of_run(alloc, &run.opening, &run.history, &transcripts)?;
             Ok(Made::Finished(run, report))
         }
     }

@@ -37,8 +37,9 @@ fn call(
     }
     let mut source = MemSource::new(input.to_vec(alloc)?, piece, bad_reads.to_vec(alloc)?);
     let mut sink = MemSink::with_room(alloc, 4096, bad_writes.to_vec(alloc)?)?;
-    let mut kept = Kept { run: None };
-    let status = xvsim(alloc, &owned, &mut source, &mut sink, &mut kept);
+    let mut kept: Kept = KeptOf { run: None };
+    let parts = Vec::new(alloc);
+    let status = xvsim(alloc, &owned, &mut source, &mut sink, parts, &mut kept);
     Ok(Outcome {
         status,
         written: sink.bytes().to_vec(alloc)?,

@@ -1,7 +1,9 @@
 //! The calls.
-ghost use Rattle.std.specs.Prelude.{◌≡◌, ◌≢◌, ℕ, map, string_bytes, IfSome, IsSomeAnd, IsTrue};
+ghost use Rattle.std.specs.Prelude.{◌≡◌, ◌≢◌, ℕ, All, map, string_bytes, IfSome, IsSomeAnd, IsTrue};
 ghost use Rattle.hv_base.specs.Count.{Rose};
+ghost use Rattle.hv_emu.specs.Device.{IsInReset};
 ghost use Rattle.xvsim.specs.declared.status.Status.{Status};
+ghost use Rattle.xvsim.specs.Given.{GaveBytes};
 ghost use Rattle.xvsim.specs.Words.{AreRunWords, AreCheckWords, AreWords};
 ghost use Rattle.xvsim.specs.Run.{IsRunOf, KeepsRun, AppendsReport, AppendsReportFront, has_output, has_run};
 ghost use Rattle.xvsim.specs.Check.{IsAllRead, AppendsCheck, AppendsCheckFront};
@@ -9,27 +11,31 @@ ghost use Rattle.xvsim.specs.Due.{IsDueStatus, IsDue, IsAnswerFor};
 
 use crate::check::check_text;
 use crate::input::read_input;
-use crate::kept::Kept;
+use crate::kept::KeptOf;
 use crate::run::{Made, make_run};
 use crate::status::Status;
 use crate::words::{Command, read_words};
 use hv_base::{Sink, Source, write_all};
+use hv_emu::Emulator;
 use std::alloc::Global;
 
 /// Runs a bundle, and writes the report.
-fn run_bundle<S: Source, K: Sink>(
+fn run_bundle<S: Source, K: Sink, E: Emulator>(
     alloc: Global,
     source: &mut S,
     sink: &mut K,
-    kept: &mut Kept,
+    parts: Vec<E>,
+    kept: &mut KeptOf<E>,
 ) -> Status
     ensures input { IsTrue (has_run result) → IsSomeAnd kept.new.run
         (IsRunOf (S.left source.old) (S.left source.new) (S.ended source.new)) }
-    ensures keeps { KeepsRun result kept.old kept.new }
+    ensures keeps { KeepsRun (map E.state parts.items) result kept.old kept.new }
+    ensures shelf { IsTrue (has_run result)
+        → IsSomeAnd kept.new.run (λ run. run.shelf.items ≡ parts.items) }
     ensures report { result ≡ Status.Done → IsSomeAnd kept.new.run
-        (AppendsReport (K.held sink.old) (K.held sink.new)) }
+        (AppendsReport (map E.state parts.items) (K.held sink.old) (K.held sink.new)) }
     ensures cut_short { result ≡ Status.WriteFault → IsSomeAnd kept.new.run
-        (AppendsReportFront (K.held sink.old) (K.held sink.new)) }
+        (AppendsReportFront (map E.state parts.items) (K.held sink.old) (K.held sink.new)) }
     ensures sink_stays { result ≢ Status.Done → result ≢ Status.WriteFault → sink.new ≡ sink.old }
     ensures due { IfSome (S.left source.old) (λ bytes. IsDueStatus bytes result) }
     ensures words { result ≢ Status.Usage }
@@ -40,7 +46,7 @@ fn run_bundle<S: Source, K: Sink>(
         Ok(input) => input,
         Err(refusal) => return refusal.status(),
     };
-    match make_run(alloc, input) {
+    match make_run(alloc, input, parts) {
         Ok(Made::Finished(run, report)) => {
             kept.run = Some(run);
             match write_all(sink, report.as_slice()) {
@@ -63,14 +69,18 @@ pub fn check_bundle<S: Source, K: Sink>(alloc: Global, source: &mut S, sink: &mu
         → IsAllRead (S.left source.new) (S.ended source.new) }
 
     // Of a check that is done exactly its text was written, and after a fault of the sink a front.
-    ensures check { result ≡ Status.Done → IfSome (S.left source.old)
+    ensures check { result ≡ Status.Done → GaveBytes (S.left source.old)
         (AppendsCheck (K.held sink.old) (K.held sink.new)) }
-    ensures cut_short { result ≡ Status.WriteFault → IfSome (S.left source.old)
+    ensures cut_short { result ≡ Status.WriteFault → GaveBytes (S.left source.old)
         (AppendsCheckFront (K.held sink.old) (K.held sink.new)) }
     ensures sink_stays { result ≢ Status.Done → result ≢ Status.WriteFault → sink.new ≡ sink.old }
 
     // When each answer comes, where the source tells its bytes.
     ensures due { IfSome (S.left source.old) (λ bytes. IsDueStatus bytes result) }
+
+    // And what is due comes: a refusal that is due is answered, unless reading failed or memory ran out.
+    ensures exact { IfSome (S.left source.old) (λ bytes. (due : Status)
+        → IsDueStatus bytes due → IsAnswerFor result due) }
     ensures words { result ≢ Status.Usage }
     ensures never_stopped { (stamp : ℕ) → result ≢ Status.StampsSpent stamp }
 
@@ -91,42 +101,56 @@ pub fn check_bundle<S: Source, K: Sink>(alloc: Global, source: &mut S, sink: &mu
     }
 }
 
-/// Carries out the command that the words name.
-pub fn xvsim<S: Source, K: Sink>(
+/// Carries out the command that the words name. A run begins with the emulators `parts`, each in its
+/// reset state, and what it leaves of them it keeps with the run.
+pub fn xvsim<S: Source, K: Sink, E: Emulator>(
     alloc: Global,
     words: &[String],
     source: &mut S,
     sink: &mut K,
-    kept: &mut Kept,
+    parts: Vec<E>,
+    kept: &mut KeptOf<E>,
 ) -> Status
+    // The emulators are as a reset leaves them.
+    requires reset { All IsInReset (map E.state parts.items) }
+
     // After a run the input was read to its end, and the run that is kept begins with what it gave.
     ensures input { AreRunWords (map string_bytes words.now) → IsTrue (has_run result)
         → IsSomeAnd kept.new.run
         (IsRunOf (S.left source.old) (S.left source.new) (S.ended source.new)) }
 
     // A run that is done is finished, in rounds; one that was stopped is kept too, and else nothing changes.
-    ensures keeps { AreRunWords (map string_bytes words.now) → KeepsRun result kept.old kept.new }
+    ensures keeps { AreRunWords (map string_bytes words.now)
+        → KeepsRun (map E.state parts.items) result kept.old kept.new }
+    // Since no guest can be made yet, the emulators are all left, in their order.
+    ensures shelf { AreRunWords (map string_bytes words.now) → IsTrue (has_run result)
+        → IsSomeAnd kept.new.run (λ run. run.shelf.items ≡ parts.items) }
     ensures kept_stays { (AreRunWords (map string_bytes words.now) → ⊥) → kept.new ≡ kept.old }
 
     // Of a run that is done exactly the report was written, and after a fault of the sink a front of it.
     ensures report { AreRunWords (map string_bytes words.now) → result ≡ Status.Done
-        → IsSomeAnd kept.new.run (AppendsReport (K.held sink.old) (K.held sink.new)) }
+        → IsSomeAnd kept.new.run (AppendsReport (map E.state parts.items) (K.held sink.old) (K.held sink.new)) }
     ensures cut_short { AreRunWords (map string_bytes words.now) → result ≡ Status.WriteFault
-        → IsSomeAnd kept.new.run (AppendsReportFront (K.held sink.old) (K.held sink.new)) }
+        → IsSomeAnd kept.new.run (AppendsReportFront (map E.state parts.items) (K.held sink.old) (K.held sink.new)) }
 
     // The same of a check and its text.
     ensures check_input { AreCheckWords (map string_bytes words.now) → IsTrue (has_output result)
         → IsAllRead (S.left source.new) (S.ended source.new) }
     ensures check { AreCheckWords (map string_bytes words.now) → result ≡ Status.Done
-        → IfSome (S.left source.old) (AppendsCheck (K.held sink.old) (K.held sink.new)) }
+        → GaveBytes (S.left source.old) (AppendsCheck (K.held sink.old) (K.held sink.new)) }
     ensures check_cut { AreCheckWords (map string_bytes words.now) → result ≡ Status.WriteFault
-        → IfSome (S.left source.old) (AppendsCheckFront (K.held sink.old) (K.held sink.new)) }
+        → GaveBytes (S.left source.old) (AppendsCheckFront (K.held sink.old) (K.held sink.new)) }
     ensures sink_stays { result ≢ Status.Done → result ≢ Status.WriteFault → sink.new ≡ sink.old }
+
+    // A check is never stopped by its stamps.
+    ensures never_stopped { AreCheckWords (map string_bytes words.now)
+        → (stamp : ℕ) → result ≢ Status.StampsSpent stamp }
 
     // When each answer comes, where the source tells its bytes.
     ensures due { IfSome (S.left source.old) (λ bytes. IsDue (map string_bytes words.now) bytes result) }
 
     // And what is due comes: a refusal that is due is answered, unless reading failed or memory ran out.
+    // Of a good input `keeps`, `report`, `cut_short` and `write_fault` say which answer it is.
     ensures exact { IfSome (S.left source.old) (λ bytes. (due : Status)
         → IsDue (map string_bytes words.now) bytes due → IsAnswerFor result due) }
     ensures usage { result ≡ Status.Usage → AreWords (map string_bytes words.now) → ⊥ }
@@ -138,7 +162,7 @@ pub fn xvsim<S: Source, K: Sink>(
     ensures write_fault { result ≡ Status.WriteFault → Rose (K.faults sink.old) (K.faults sink.new) }
 {
     match read_words(words) {
-        Some(Command::Run) => run_bundle(alloc, source, sink, kept),
+        Some(Command::Run) => run_bundle(alloc, source, sink, parts, kept),
         Some(Command::Check) => check_bundle(alloc, source, sink),
         None => Status::Usage,
     }

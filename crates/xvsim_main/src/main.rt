@@ -2,12 +2,17 @@
 #![tactic(auto)]
 
 use hv_base::{InSource, OutSink};
+use hv_emu::Emulator;
+use hv_plic::Plic;
+use hv_text::SLOTS;
+use hv_timer::Timer;
+use hv_uart::Uart;
 use std::alloc::{AllocError, Global};
 use std::env::{self, Env};
 use std::io::Write;
 use std::process::ExitCode;
 use std::{io, str};
-use xvsim::{Kept, Status, xvsim};
+use xvsim::{KeptOf, Status, xvsim};
 
 /// The words behind the program's name. Words that are no text are wrong words.
 fn words(rt: &(impl Env + AllocGlobal)) -> Result<Vec<String>, Status> {
@@ -28,15 +33,35 @@ fn words(rt: &(impl Env + AllocGlobal)) -> Result<Vec<String>, Status> {
     Ok(words)
 }
 
+/// Carries out the command with a board's emulators, eight of each kind: serial ports, interrupt
+/// controllers and timers, in this order and each in its reset state.
+fn carry_out(rt: &(impl AllocGlobal + Input + Print), words: &[String]) -> Result<Status, AllocError> {
+    let alloc = rt.alloc();
+    let mut parts: Vec<Box<dyn Emulator + Send>> = Vec::new(alloc);
+    for _ in 0..SLOTS {
+        parts.push(Box::new(alloc, Uart::new(alloc)?)?)?;
+    }
+    for _ in 0..SLOTS {
+        parts.push(Box::new(alloc, Plic::new())?)?;
+    }
+    for _ in 0..SLOTS {
+        parts.push(Box::new(alloc, Timer::new())?)?;
+    }
+    let mut source = InSource::new(rt.reader());
+    let mut sink = OutSink::new(io::writer(rt));
+    let mut kept = KeptOf { run: None };
+    Ok(xvsim(alloc, words, &mut source, &mut sink, parts, &mut kept))
+}
+
 fn status_of(rt: &(impl Env + AllocGlobal + Input + Print)) -> Status {
     let words = match words(rt) {
         Ok(words) => words,
         Err(status) => return status,
     };
-    let mut source = InSource::new(rt.reader());
-    let mut sink = OutSink::new(io::writer(rt));
-    let mut kept = Kept { run: None };
-    xvsim(rt.alloc(), &words, &mut source, &mut sink, &mut kept)
+    match carry_out(rt, &words) {
+        Ok(status) => status,
+        Err(_) => Status::OutOfMemory,
+    }
 }
 
 fn code_of(status: &Status) -> u8 {

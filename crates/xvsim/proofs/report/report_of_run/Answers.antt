@@ -15,15 +15,14 @@ as-many O H [] (x ∷ xs) h = absurd h
 as-many O H (t ∷ ts) [] h = absurd h
 
 pub returns : goal.returns
-returns c =
-    let O = origin_of c.args.run.now.opening in
-    let H = c.args.run.now.history.items in
+returns c = λ devices.
+    let O = origin_of c.args.opening.now devices in
+    let H = c.args.history.now in
     let texts = c.args.transcripts.now in
     let parts = report_parts (heading O Bool.false) (terminals_text terminals texts) (flat_map (λ e. line (event_text e)) H) (decimal (length H)) in
-    let shown = c.in_ok-push_terminals.ensures (as-many O H terminals texts c.requires) in
-    let size : vec_len c.args.run.now.history ≡ length H = cc (c.deref.ensures.len, c.deref.ensures.value) in
+    let shown = c.in_ok-push_terminals.ensures (as-many O H terminals texts (c.requires devices)) in
     record {
       transcripts = texts;
-      shown = c.requires;
-      text_is = rw (c.in_ok-append-3.ensures.ok, c.in_ok-push_decimal.ensures.ok, c.len.ensures, size, c.in_ok-append-2.ensures.ok, c.in_ok-push_events.ensures, c.deref.ensures.value, c.in_ok-append.ensures.ok, shown, c.in_ok-push_heading.ensures, c.from_vec-to.ensures, c.new.ensures.items) parts;
+      shown = c.requires devices;
+      text_is = rw (c.in_ok-append-3.ensures.ok, c.in_ok-push_decimal.ensures.ok, c.len.ensures, c.in_ok-append-2.ensures.ok, c.in_ok-push_events.ensures, c.in_ok-append.ensures.ok, shown, c.in_ok-push_heading.ensures devices, c.from_vec-to.ensures, c.new.ensures.items) parts;
     }

@@ -11,6 +11,7 @@ returns-clause-spent c = λ n is.
       last = found.0;
       terminal = c.args.number;
       is_one = c.requires.is_one;
+      left = c.requires.left;
       found = λ d.
           let same : at c.args.self.now c.args.number d ≡ c.index_mut.result.now = get_or_default c.args.self.now.terminals.items c.args.number d c.index_mut.result.now (omega (arith, c.args.self.now.four)) ∙ sym c.index_mut.ensures.value in
           ap (λ (u : Terminal). max u.stamp c.args.self.now.files.stamp) same ∙ found.1;
