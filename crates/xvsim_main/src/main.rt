@@ -35,7 +35,10 @@ fn words(rt: &(impl Env + AllocGlobal)) -> Result<Vec<String>, Status> {
 
 /// Carries out the command with a board's emulators, eight of each kind: serial ports, interrupt
 /// controllers and timers, in this order and each in its reset state.
-fn carry_out(rt: &(impl AllocGlobal + Input + Print), words: &[String]) -> Result<Status, AllocError> {
+fn carry_out(
+    rt: &(impl AllocGlobal + Input + Print),
+    words: &[String],
+) -> Result<Status, AllocError> {
     let alloc = rt.alloc();
     let mut parts: Vec<Box<dyn Emulator + Send>> = Vec::new(alloc);
     for _ in 0..SLOTS {

@@ -24,5 +24,5 @@ returns c = λ devices.
     record {
       transcripts = texts;
       shown = c.requires devices;
-      text_is = rw (c.in_ok-append-3.ensures.ok, c.in_ok-push_decimal.ensures.ok, c.len.ensures, c.in_ok-append-2.ensures.ok, c.in_ok-push_events.ensures, c.in_ok-append.ensures.ok, shown, c.in_ok-push_heading.ensures devices, c.from_vec-to.ensures, c.new.ensures.items) parts;
+      text_is = rw (c.in_ok-append-3.ensures.ok, c.in_ok-push_decimal.ensures.ok, c.in_ok-append-2.ensures.ok, c.in_ok-push_events.ensures, c.in_ok-append.ensures.ok, shown, c.in_ok-push_heading.ensures devices, c.from_vec-to.ensures, c.new.ensures.items) parts;
     }

@@ -3,7 +3,7 @@ use Rattle.std.specs.Io.KnownBytes.{Appends}
 use Rattle.hv_base.specs.Writing.{AppendsFront}
 use Rattle.xvsim.proofs.Told.{of_given, good_of, check_of}
 use Rattle.xvsim.specs.Check.{IsCheckOf}
-use Rattle.xvsim.proofs.Exact.{exact_status, due_status, exact_any}
+use Rattle.xvsim.proofs.Exact.{exact_status, due_status}
 use Rattle.xvsim.proofs.top.check_bundle.Goals as goal
 
 pub returns-in-Ok-write_all-clause-check : goal.returns-in-Ok-write_all-clause-check
@@ -30,6 +30,3 @@ returns-in-Ok-write_all-clause-exact g c = exact_status _ _ (good_of _ _ _ c.in-
 
 pub returns-in-Ok-check_text-clause-exact : goal.returns-in-Ok-check_text-clause-exact
 returns-in-Ok-check_text-clause-exact g c = exact_status _ _ (good_of _ _ _ c.in-Ok.input c.in-Ok.ensures.whole c.in-Ok.ensures.all)
-
-pub returns-in-Ok-clause-exact : goal.returns-in-Ok-clause-exact
-returns-in-Ok-clause-exact g c = exact_any _ _ tt
