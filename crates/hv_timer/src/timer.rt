@@ -7,6 +7,10 @@ use hv_emu::{Emulator, Pins};
 use hv_registers::{ContextWords, resize, set_word, word_at};
 
 /// The timer and software interrupts of up to four VCPUs.
+///
+/// mtime counts ticks modulo 2^64. An access has 4 bytes, or 8 at offsets of at least 0x4000, and
+/// begins at a multiple of its size; every other is denied. One of 4 bytes reaches an msip, or
+/// either half of an mtimecmp or of mtime. A place with no register reads 0 and isn't written.
 #[derive(Drop)]
 pub struct Timer {
     // By context.
