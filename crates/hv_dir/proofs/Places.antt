@@ -1,5 +1,5 @@
 -- What stays of the places of the slots when one of them changes.
-use Rattle.std.proofs.Common.{◌≡◌, ℕ, zero, suc, ◌+◌, ◌<◌, Bool, IfSome, position, arith, List, [], ◌∷◌, length, sym, refl, ap, ◌∙◌, Option, Some, None, slice_get, set, replicate}
+use Rattle.std.proofs.Common.{◌≡◌, ℕ, zero, suc, ◌<◌, Bool, IfSome, position, arith, List, [], ◌∷◌, length, sym, refl, ap, ◌∙◌, Option, Some, None, slice_get, set}
 use Rattle.std.proofs.lemmas.List.{length-set}
 use Rattle.std.proofs.lemmas.Bool.Decides.{nat_tests}
 use Rattle.std.proofs.lemmas.Option.{same_Some}
@@ -18,8 +18,9 @@ set_cases (x ∷ xs) (suc i) (suc j) y z e new old = set_cases xs i j y z e (λ 
 -- an entry that is put at the place of its slot keeps the rule
 pub entries_set : (entries : List (Option Entry)) (k : ℕ) (place : Option Entry) → AreEntries entries → ((entry : Entry) → place ≡ Some entry → entry.slot ≡ k) → AreEntries (set entries k place)
 entries_set entries k place are put = record {
-    long = length-set entries k place ∙ are.long;
-    placed = λ slot entry there. set_cases entries k slot place (Some entry) there (λ same is. put entry is ∙ same) (λ was. are.placed slot entry was) }
+  long = length-set entries k place ∙ are.long;
+  placed = λ slot entry there. set_cases entries k slot place (Some entry) there (λ same is. put entry is ∙ same) (λ was. are.placed slot entry was);
+}
 
 -- a place that a search finds is one of the list
 pub position_within : {A : Type 0} (p : A → Bool) (xs : List A) (k : ℕ) → position p xs ≡ Some k → k < length xs

@@ -48,7 +48,8 @@ new_entry dir name slot = record { name = name; slot = slot; birth = dir.granted
 abbrev pub granted_in : DirState → (name : List ℕ) → (slot : ℕ) → DirState
 granted_in dir name slot = record {
   entries = slice_set dir.entries slot (Some (new_entry dir name slot));
-  granted = dir.granted + 1 }
+  granted = dir.granted + 1;
+}
 
 -- A claim, by the slot that its name has and the least free slot.
 abbrev pub claimed_by : DirState → (name : List ℕ) → (used free : Option ℕ) → Result (DirState × (ℕ × ℕ)) DirRefusal

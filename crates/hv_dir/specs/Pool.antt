@@ -1,5 +1,5 @@
 -- The devices that no guest has, in the order in which they are found, and who gets which.
-use Rattle.std.specs.Prelude.{ℕ, List, [], ◌∷◌, ◌++◌, map, Option, Some, None, position, remove, slice_get}
+use Rattle.std.specs.Prelude.{ℕ, List, [], ◌∷◌, ◌++◌, map, Option, None, position, remove, slice_get}
 use Rattle.std.specs.Option.{option_and_then, option_map, option_or}
 use Rattle.hv_emu.specs.Device.{DevState, has_name, after_reset}
 

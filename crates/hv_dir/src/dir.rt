@@ -37,7 +37,11 @@ impl Dir {
         ensures { result ≡ no_guests }
     {
         Dir {
-            entries: array::from_fn(|_| ensures { result ≡ None } { None }),
+            entries: array::from_fn(
+                |_|
+                    ensures { result ≡ None }
+                { None },
+            ),
             granted: 0,
         }
     }
@@ -128,12 +132,7 @@ impl Dir {
 
     /// Turns the guest with a name, which must be at a stage, to another stage, or lets its slot
     /// go.
-    pub fn turn_to(
-        &mut self,
-        name: &[u8],
-        from: Stage,
-        to: Option<Stage>,
-    ) -> Result<(), DirRefusal>
+    pub fn turn_to(&mut self, name: &[u8], from: Stage, to: Option<Stage>) -> Result<(), DirRefusal>
         ensures ok { OnOk result (turned self.old name.now from to ≡ Ok self.new) }
         ensures refused { IfErr result (λ why. turned self.old name.now from to ≡ Err why) }
         ensures err { OnErr result (self.new ≡ self.old) }

@@ -10,6 +10,8 @@ mod dir;
 mod entry;
 mod refusal;
 mod shelf;
+#[cfg(test)]
+mod tests;
 
 pub use dir::Dir;
 pub use entry::Entry;

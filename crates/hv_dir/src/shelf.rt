@@ -26,8 +26,9 @@ impl<E> Model for ShelfOf<E> {
     ghost Value = { Pool E };
 
     ghost view = { λ s. record {
-        parts = s.parts.items;
-        room = vec_capacity s.parts - vec_len s.parts } };
+      parts = s.parts.items;
+      room = vec_capacity s.parts - vec_len s.parts;
+    } };
 }
 
 /// The pool of emulators in boxes.

@@ -12,5 +12,5 @@ returns-clause-value c =
 pub returns-clause-within : goal.returns-clause-within
 returns-clause-within c =
     let found : c.position.result ≡ position is_none c.self.inside.entries =
-      position_from_yields_List is_none _ _ c.position.result c.position.ensures.ran (YieldsList-from_slice c.self.inside.entries cc) (λ x b q k. search (rules, tests)) in
+    position_from_yields_List is_none _ _ c.position.result c.position.ensures.ran (YieldsList-from_slice c.self.inside.entries cc) (λ x b q k. search (rules, tests)) in
     slot_within is_none c.self.inside.entries c.position.result c.self.invariant found

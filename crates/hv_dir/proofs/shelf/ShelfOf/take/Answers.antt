@@ -13,4 +13,4 @@ remove-requires g c =
 pub returns-in-Some-clause-ok : goal.returns-in-Some-clause-ok
 returns-in-Some-clause-ok g c =
     taken_is g.E.Emulator.state c.self.inside.parts.items c.remove.new.self.items (map g.E.Emulator.state c.args.self.now.parts) c.args.compatible.now c.in-Some.place c.remove.result
-      (ap (λ v. map g.E.Emulator.state v.parts) c.self.view_is) (sym c.find_any.ensures ∙ c.in-Some.is) c.remove.ensures.value c.remove.ensures.items
+    (ap (λ v. map g.E.Emulator.state v.parts) c.self.view_is) (sym c.find_any.ensures ∙ c.in-Some.is) c.remove.ensures.value c.remove.ensures.items
