@@ -1,5 +1,7 @@
 //! A serial port goes from the pool to a guest and back.
 
+ghost use Rattle.hv_emu.specs.Device.{IsInReset};
+
 use hv_dir::{Shelf, ShelfOf};
 use hv_emu::Emulator;
 use hv_text::{Bytes, Strings};
@@ -10,11 +12,12 @@ use std::test::Fail;
 /// Offset of the scratch register.
 const SCR: u64 = 7;
 
-/// A pool of one serial port.
-fn one_port(alloc: Global) -> Result<Shelf, AllocError> {
+/// A pool of one device.
+fn pool_of(alloc: Global, part: Box<dyn Emulator + Send>) -> Result<Shelf, AllocError>
+    requires { IsInReset (state part) }
+{
     let mut parts = Vec::new(alloc);
-    let port: Box<dyn Emulator + Send> = Box::new(alloc, Uart::new(alloc)?)?;
-    parts.push(port)?;
+    parts.push(part)?;
     Ok(ShelfOf::new(parts))
 }
 
@@ -27,9 +30,11 @@ fn asked_for(alloc: Global) -> Result<Strings, AllocError> {
 }
 
 #[test]
+#[tactic(auto, unfolding(hv_emu::specs::Device::after_reset))]
 fn comes_back_in_its_reset_state(rt: HostRuntime) -> Result<(), Fail> {
     let alloc = rt.alloc();
-    let mut shelf = one_port(alloc)?;
+    let port: Box<dyn Emulator + Send> = Box::new(alloc, Uart::new(alloc)?)?;
+    let mut shelf = pool_of(alloc, port)?;
     let names = asked_for(alloc)?;
     let taken = shelf.take(&names);
     assert!(rt; taken.is_ok());

@@ -1,7 +1,6 @@
 -- The guests of a board: which slot each has, and how far it is made.
-use Rattle.std.specs.Prelude.{◌≡◌, ℕ, ◌+◌, Bool, true, false, List, length, replicate, Option, Some, None, is_none, position, slice_get, slice_set, if◌then◌else◌, Result, Ok, Err}
-use Rattle.std.specs.Option.{option_and_then, option_flatten, option_map}
-use Rattle.std.specs.Result.{result_map_both}
+use Rattle.std.specs.Prelude.{◌≡◌, ℕ, ◌+◌, Bool, true, false, List, length, replicate, Option, Some, None, is_some, is_none, position, slice_get, slice_set, if◌then◌else◌, Result, Ok, Err}
+use Rattle.std.specs.Option.{ok_or, option_and_then, option_flatten, option_map}
 use Rattle.std.specs.Str.{bytes_eq}
 use Rattle.hv_kinds.specs.declared.stage.Stage.{Stage}
 use Rattle.hv_kinds.specs.declared.stage.Stage.TheVariants.{Making, Made, Ending}
@@ -15,51 +14,55 @@ pub record DirState : Type 0 where
   pub entries : List (Option Entry)
   pub granted : ℕ
 
+-- There is a place for each slot, and each entry stands at the place of its slot.
+pub record AreEntries (entries : List (Option Entry)) : Type 0 where
+  pub long : length entries ≡ SLOTS
+  pub placed : (slot : ℕ) → (entry : Entry) → slice_get entries slot ≡ Some (Some entry) → entry.slot ≡ slot
+
 -- At first no slot is taken, and no claim granted.
 abbrev pub no_guests : DirState
 no_guests = record { entries = replicate SLOTS None; granted = 0 }
 
--- The entry of a slot, if it is taken.
+-- The guest that has a slot, or nothing where the slot is free.
 abbrev pub entry_at : DirState → (slot : ℕ) → Option Entry
 entry_at dir slot = option_flatten (slice_get dir.entries slot)
+
+-- The directory once a slot has another guest, or is free.
+abbrev pub with_entry : DirState → (slot : ℕ) → Option Entry → DirState
+with_entry dir slot entry = record dir { entries = slice_set dir.entries slot entry }
 
 -- A slot is that of the guest with a name.
 abbrev pub is_named : (name : List ℕ) → Option Entry → Bool
 is_named name None = false
-is_named name (Some entry) = bytes_eq entry.name name
+is_named name (Some guest) = bytes_eq guest.name name
 
 -- The slot of the guest with a name.
 abbrev pub slot_of : DirState → (name : List ℕ) → Option ℕ
 slot_of dir name = position (is_named name) dir.entries
 
+-- The guest with a name.
+abbrev pub entry_of : DirState → (name : List ℕ) → Option Entry
+entry_of dir name = option_and_then (entry_at dir) (slot_of dir name)
+
 -- The least slot that is free.
 abbrev pub free_slot : DirState → Option ℕ
 free_slot dir = position is_none dir.entries
 
--- A slot gets another entry, or becomes free.
-abbrev pub with_entry : DirState → (slot : ℕ) → Option Entry → DirState
-with_entry dir slot entry = record dir { entries = slice_set dir.entries slot entry }
+-- A new guest is at its making, and its birth is the number of claims granted before.
+abbrev pub new_guest : DirState → (name : List ℕ) → (slot : ℕ) → Entry
+new_guest dir name slot = record { name = name; slot = slot; birth = dir.granted; stage = Making }
 
--- The entry that a claim makes in a slot.
-abbrev pub new_entry : DirState → (name : List ℕ) → (slot : ℕ) → Entry
-new_entry dir name slot = record { name = name; slot = slot; birth = dir.granted; stage = Making }
-
--- The directory after a claim was granted in a slot.
+-- The directory once a new guest has a slot: one more claim is granted.
 abbrev pub granted_in : DirState → (name : List ℕ) → (slot : ℕ) → DirState
-granted_in dir name slot = record {
-  entries = slice_set dir.entries slot (Some (new_entry dir name slot));
-  granted = dir.granted + 1;
-}
+granted_in dir name slot =
+    record (with_entry dir slot (Some (new_guest dir name slot))) { granted = dir.granted + 1 }
 
--- A claim, by the slot that its name has and the least free slot.
-abbrev pub claimed_by : DirState → (name : List ℕ) → (used free : Option ℕ) → Result (DirState × (ℕ × ℕ)) DirRefusal
-claimed_by dir name (Some slot) free = Err NameUsed
-claimed_by dir name None None = Err NoSlot
-claimed_by dir name None (Some slot) = Ok (granted_in dir name slot, (slot, dir.granted))
-
--- A claim leaves a directory, and gives the least free slot and the birth; a used name is refused, and so is a full board.
+-- A claim gives a new guest the least free slot, and answers the slot and the birth. A used name is refused, and then
+-- a board without a free slot.
 abbrev pub claimed : DirState → (name : List ℕ) → Result (DirState × (ℕ × ℕ)) DirRefusal
-claimed dir name = claimed_by dir name (slot_of dir name) (free_slot dir)
+claimed dir name =
+    if is_some (slot_of dir name) then Err NameUsed
+    else ok_or (option_map (λ slot. (granted_in dir name slot, (slot, dir.granted))) (free_slot dir)) NoSlot
 
 -- Two stages are the same.
 abbrev pub is_stage : Stage → Stage → Bool
@@ -68,38 +71,25 @@ is_stage Made Made = true
 is_stage Ending Ending = true
 is_stage _ _ = false
 
--- The slot and the birth of an entry that is at a stage.
-abbrev pub guest_in : Option Entry → Stage → Result (ℕ × ℕ) DirRefusal
-guest_in None stage = Err NoSuchGuest
-guest_in (Some entry) stage = if is_stage entry.stage stage then Ok (entry.slot, entry.birth) else Err (GuestState entry.stage)
+-- What a guest gives that has to be at a stage: it is refused where there is none, and where it is at another.
+abbrev pub if_at : {A : Type 0} → Stage → (Entry → A) → Option Entry → Result A DirRefusal
+if_at stage gives None = Err NoSuchGuest
+if_at stage gives (Some guest) = if is_stage guest.stage stage then Ok (gives guest) else Err (GuestState guest.stage)
 
--- The entry of the guest with a name.
-abbrev pub entry_of : DirState → (name : List ℕ) → Option Entry
-entry_of dir name = option_and_then (entry_at dir) (slot_of dir name)
-
--- The slot and the birth of the guest with a name, which is at a stage.
+-- The slot and the birth of the guest with a name, which has to be at a stage.
 abbrev pub guest_at : DirState → (name : List ℕ) → Stage → Result (ℕ × ℕ) DirRefusal
-guest_at dir name stage = guest_in (entry_of dir name) stage
+guest_at dir name stage = if_at stage (λ guest. (guest.slot, guest.birth)) (entry_of dir name)
 
--- An entry at its next stage; a guest that has none gives its slot up.
-abbrev pub at_next : (next : Option Stage) → Option Entry → Option Entry
-at_next None entry = None
-at_next (Some stage) entry = option_map (λ (e : Entry). record e { stage = stage }) entry
+-- The guest at its next stage, or nothing where there is none.
+abbrev pub at_next : (next : Option Stage) → Entry → Option Entry
+at_next next guest = option_map (λ stage. record guest { stage = stage }) next
 
--- The guest with a name, which is at a stage, goes on to the next one, or gives its slot up.
+-- The guest with a name, which has to be at a stage, turns to the next one, or lets its slot go where there is none.
 abbrev pub turned : DirState → (name : List ℕ) → Stage → (next : Option Stage) → Result DirState DirRefusal
 turned dir name stage next =
-    result_map_both (λ guest. with_entry dir guest.0 (at_next next (entry_at dir guest.0))) (λ refusal. refusal) (guest_at dir name stage)
+    if_at stage (λ guest. with_entry dir guest.slot (at_next next guest)) (entry_of dir name)
 
 -- A call ran out of memory, or this refusal is the one that is due.
 abbrev pub IsDueOrMemory : {A : Type 0} → Result A DirRefusal → DirRefusal → Type 0
 IsDueOrMemory due (Memory e) = Unit {0}
-IsDueOrMemory due NameUsed = due ≡ Err NameUsed
-IsDueOrMemory due NoSlot = due ≡ Err NoSlot
-IsDueOrMemory due NoSuchGuest = due ≡ Err NoSuchGuest
-IsDueOrMemory due (GuestState stage) = due ≡ Err (GuestState stage)
-
--- There is a place for each slot, and each entry stands at the place of its slot.
-pub record AreEntries (entries : List (Option Entry)) : Type 0 where
-  pub long : length entries ≡ SLOTS
-  pub placed : (slot : ℕ) → (entry : Entry) → slice_get entries slot ≡ Some (Some entry) → entry.slot ≡ slot
+IsDueOrMemory due refusal = due ≡ Err refusal

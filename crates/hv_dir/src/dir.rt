@@ -1,6 +1,6 @@
 //! The directory of the guests.
 ghost use Rattle.std.specs.Prelude.{◌≡◌, ◌≢◌, ◌<◌, Some, Ok, Err, None, IfOk, IfErr, OnOk, OnErr, IfSome, is_none, position};
-ghost use Rattle.std.specs.Option.{option_copied};
+ghost use Rattle.std.specs.Option.{option_and_then, option_copied};
 ghost use Rattle.hv_dir.specs.Directory.{no_guests, entry_at, entry_of, slot_of, free_slot, is_named, is_stage, at_next, claimed, guest_at, turned, IsDueOrMemory};
 ghost use Rattle.hv_text.specs.declared.limits.TheConstants.{SLOTS};
 ghost use Rattle.hv_dir.specs.declared.refusal.DirRefusal.TheVariants.{Memory};
@@ -163,7 +163,7 @@ fn is_stage(one: Stage, other: Stage) -> bool
 
 /// Turns an entry to its next stage, or lets its slot go.
 fn turn_entry(entry: &mut Option<Entry>, next: Option<Stage>)
-    ensures { entry.new ≡ at_next next entry.old }
+    ensures { entry.new ≡ option_and_then (at_next next) entry.old }
 {
     match next {
         Some(stage) => {

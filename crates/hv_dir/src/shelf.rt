@@ -1,6 +1,6 @@
 //! The pool of devices.
-ghost use Rattle.std.specs.Prelude.{◌≡◌, ◌<◌, Some, None, IfOk, OnOk, OnErr, position};
-ghost use Rattle.hv_emu.specs.Device.{has_name};
+ghost use Rattle.std.specs.Prelude.{◌≡◌, ◌<◌, All, map, Some, None, IfOk, OnOk, OnErr, position};
+ghost use Rattle.hv_emu.specs.Device.{has_name, IsInReset};
 ghost use Rattle.hv_dir.specs.Pool.{devices_of, place_of, taken, given_back};
 
 use hv_emu::Emulator;
@@ -35,8 +35,9 @@ impl<E> Model for ShelfOf<E> {
 pub type Shelf = ShelfOf<Box<dyn Emulator + Send>>;
 
 impl<E: Emulator> ShelfOf<E> {
-    /// A pool of these parts, which are to be in their reset state.
+    /// A pool of these parts, in their order.
     pub fn new(parts: Vec<E>) -> ShelfOf<E>
+        requires { All IsInReset (map E.state parts.items) }
         ensures { result.parts ≡ parts.items }
     {
         ShelfOf { parts }
