@@ -1,5 +1,6 @@
-//! Devices of each kind in the pool from which guests take them. This crate has tests alone, since
-//! the pool knows of no kind of device, and the emulators know of no pool.
+//! Tests of devices in the pool from which guests take them.
+//!
+//! They stand here since the pool knows of no kind of device, and no emulator knows of the pool.
 #![tactic(auto)]
 
 #[cfg(test)]

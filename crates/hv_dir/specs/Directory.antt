@@ -48,7 +48,7 @@ entry_of dir name = option_and_then (entry_at dir) (slot_of dir name)
 abbrev pub free_slot : DirState → Option ℕ
 free_slot dir = position is_none dir.entries
 
--- A new guest is at its making, and its birth is the number of claims granted before.
+-- A new guest begins to be made, and its birth is the number of claims granted before.
 abbrev pub new_guest : DirState → (name : List ℕ) → (slot : ℕ) → Entry
 new_guest dir name slot = record { name = name; slot = slot; birth = dir.granted; stage = Making }
 
@@ -71,7 +71,8 @@ is_stage Made Made = true
 is_stage Ending Ending = true
 is_stage _ _ = false
 
--- What a guest gives that has to be at a stage: it is refused where there is none, and where it is at another.
+-- What a call gives that needs a guest at a stage: it is refused where there is no guest, and where the guest is at
+-- another stage.
 abbrev pub if_at : {A : Type 0} → Stage → (Entry → A) → Option Entry → Result A DirRefusal
 if_at stage gives None = Err NoSuchGuest
 if_at stage gives (Some guest) = if is_stage guest.stage stage then Ok (gives guest) else Err (GuestState guest.stage)
