@@ -1,7 +1,7 @@
 //! The serial port.
 
 ghost use Rattle.std.specs.Prelude.{◌≡◌, IfOk, option_map};
-ghost use Rattle.hv_emu.specs.Device.{DevState};
+ghost use Rattle.hv_emu.specs.Device.{DevState, IsInReset, uart};
 ghost use Rattle.hv_emu.specs.Uart as device;
 ghost use Rattle.hv_emu.specs.Uart.{uart_reset, interrupt_code};
 ghost use Rattle.hv_uart.specs.Registers.{register_of, code_of};
@@ -79,8 +79,10 @@ impl Model for Uart {
 
 impl Uart {
     /// A serial port in its reset state, with no context. The one call that takes memory.
+    #[tactic(auto, unfolding(hv_emu::specs::Device::after_reset))]
     pub fn new(alloc: Global) -> Result<Uart, AllocError>
-        ensures { IfOk result (λ port. port ≡ uart_reset 0) }
+        ensures state { IfOk result (λ port. port ≡ uart_reset 0) }
+        ensures reset { IfOk result (λ port. IsInReset (uart port)) }
     {
         let input = HeapCircularBuffer::with_capacity(alloc, FIFO_ROOM)?;
         let output = HeapCircularBuffer::with_capacity(alloc, OUTPUT_ROOM)?;
