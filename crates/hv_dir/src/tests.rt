@@ -21,10 +21,7 @@ fn gives_a_freed_slot_to_the_next_claim(rt: HostRuntime) -> Result<(), Fail> {
     assert_eq!(rt; dir.turn_to(b"c", Stage::Ending, None), Ok(()));
     assert!(rt; dir.at_slot(2).is_none());
     assert_eq!(rt; dir.claim(alloc, b"i"), Ok((2, 8)));
-    let Some(entry) = dir.at_slot(2) else {
-        assert!(rt; false);
-        return Ok(());
-    };
+    let entry = dir.at_slot(2).expect(&rt, "a guest has the slot");
     assert!(rt; entry.name.as_slice() == b"i".as_slice() && entry.slot == 2 && entry.birth == 8);
     assert!(rt; dir.at_slot(8).is_none());
     Ok(())
