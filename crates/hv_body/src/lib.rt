@@ -13,6 +13,8 @@ mod live;
 mod memory;
 mod place;
 mod room;
+#[cfg(test)]
+mod tests;
 mod window;
 
 pub use area::Area;

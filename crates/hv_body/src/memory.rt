@@ -25,9 +25,9 @@ impl Memory {
     pub fn zeroed(alloc: Global, size: u64) -> Result<Memory, AllocError>
         ensures { IfOk result (λ memory. memory ≡ replicate size 0) }
     {
-        Ok(Memory {
-            bytes: Vec::from_elem(alloc, 0, size as usize)?,
-        })
+        let mut bytes = Vec::with_capacity(alloc, size as usize)?;
+        bytes.resize(size as usize, 0)?;
+        Ok(Memory { bytes })
     }
 
     /// No bytes.
