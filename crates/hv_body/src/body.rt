@@ -101,8 +101,8 @@ impl<E: Emulator> BodyOf<E> {
         requires plan { IsRegionPlan room }
         requires area { FitsArea room.size room.form }
         requires form { CanMake room.form part }
-        ensures { seen E.state self.new
-            ≡ filled birth row room (option_map (λ p. devices.after_attach (E.state p) vcpus) part) }
+        ensures { let device = option_map (λ p. devices.after_attach (E.state p) vcpus) part in
+            seen E.state self.new ≡ filled birth row room device }
     {
         let BodyRoom {
             plan,
@@ -110,7 +110,7 @@ impl<E: Emulator> BodyOf<E> {
             mut windows,
         } = room;
         put(&mut windows, own_window(birth, row, &plan));
-        let contents = Contents::new(&plan.form, plan.size, memory, part, vcpus);
+        let contents = Contents::new(&plan, memory, part, vcpus);
         self.live = Some(Live {
             birth,
             plan,

@@ -8,7 +8,7 @@ ghost use Rattle.hv_body.specs.Rules.{ReachesTo, IsMemory, CanMake, zeros_for};
 use crate::memory::Memory;
 use crate::place::Answer;
 use hv_emu::Emulator;
-use hv_region::Form;
+use hv_region::{Form, RegionPlan};
 
 /// What a live region is made of.
 #[derive(Drop)]
@@ -25,21 +25,20 @@ pub enum Contents<E> {
 
 impl<E: Emulator> Contents<E> {
     /// The contents of a new region.
-    pub fn new(form: &Form, size: u64, memory: Memory, part: Option<E>, vcpus: u8) -> Contents<E>
+    pub fn new(plan: &RegionPlan, memory: Memory, part: Option<E>, vcpus: u8) -> Contents<E>
         requires some { 1 ≤ vcpus }
         requires few { vcpus ≤ 4 }
-        requires memory { memory ≡ zeros_for form.now size }
-        requires form { CanMake form.now part }
-        ensures { new_contents form.now size (option_map (λ p. after_attach (E.state p) vcpus) part)
-            ≡ Some (map_device E.state result) }
+        requires memory { memory ≡ zeros_for plan.now.form plan.now.size }
+        requires form { CanMake plan.now.form part }
+        ensures { let device = option_map (λ p. after_attach (E.state p) vcpus) part in
+            new_contents plan.now.form plan.now.size device ≡ Some (map_device E.state result) }
     {
-        let _size = size;
         match part {
             Some(mut part) => {
                 part.attach(vcpus);
                 Contents::Emulated(part)
             }
-            None => match form {
+            None => match &plan.form {
                 Form::Rom => Contents::ReadOnly(memory),
                 Form::Real { area, offset } => Contents::Shared {
                     area: *area,

@@ -29,6 +29,7 @@ impl<E: Emulator> Live<E> {
         ensures value { result ≡ offset_of self.now.windows place }
         ensures within { IfSome result (λ offset. ReachesTo self.now.contents (offset + place.size)) }
     {
+        // No window ends behind the region, so no sum passes its size.
         let _size = self.plan.size;
         let Some(window) = window_for(&self.windows, place) else {
             return None;

@@ -65,5 +65,6 @@ pub fn put(windows: &mut WindowList, window: Window)
         ≡ (if lies_apart windows.old window then put_in_order window windows.old else windows.old) }
 {
     let _refused = windows.add(window);
+    // Where the window was added, it stands by its address.
     let _first = windows.at(0);
 }
