@@ -1,5 +1,5 @@
 -- The contents of one region of a guest, with the windows that reach them.
--- A body is empty, or live: it has the generation of its guest, the region's plan, its contents and its windows.
+-- A body is empty, or live: it has the birth of its guest, the region's plan, its contents and its windows.
 use Rattle.std.specs.Prelude.{ℕ, Bool, false, ◌&&◌, ◌==◌, if◌then◌else◌, List, [], ◌∷◌, Option, Some, None}
 use Rattle.std.specs.Option.{option_map, option_map_or, option_and_then}
 use Rattle.hv_emu.specs.Device.{DevState}
@@ -7,7 +7,7 @@ use Rattle.hv_kinds.specs.declared.pins.Pins.{Pins}
 use Rattle.hv_region.specs.Windows.{without_owner}
 use Rattle.hv_region.specs.declared.plan.RegionPlan.{RegionPlan}
 use Rattle.hv_region.specs.declared.window.Window.{Window}
-use Rattle.hv_body.specs.Windows.{offset_of, lies_apart, has_owner, lies_within, put_in_order}
+use Rattle.hv_body.specs.Windows.{offset_of, lies_apart, is_new_owner, lies_within, put_in_order}
 use Rattle.hv_body.specs.Contents.{map_device, new_contents, fetched, loaded, after_load, stored, after_store, put_into, byte_at, device_in}
 use Rattle.hv_body.specs.declared.contents.Contents.{Contents}
 use Rattle.hv_body.specs.declared.live.Live.{Live}
@@ -82,11 +82,11 @@ load_leaves body place = left body place (λ contents offset. after_load content
 abbrev pub store_leaves : Option (Live DevState) → Place → (value : ℕ) → Option (Live DevState)
 store_leaves body place value = left body place (λ contents offset. after_store contents offset place.size value)
 
--- A window may be added to a live body: it is of its generation, belongs to a region that has none there, shows some of
+-- A window may be added to a live body: it is of its birth, belongs to a region that has none there, shows some of
 -- the region and nothing behind it, keeps the bounds of its type and meets no other window there.
 abbrev pub may_add : {D : Type 0} → Live D → Window → Bool
 may_add live window =
-    (window.birth == live.birth) && has_owner live.windows window && lies_within live.plan.size window
+    (window.birth == live.birth) && is_new_owner live.windows window && lies_within live.plan.size window
     && lies_apart live.windows window
 
 -- A window that may be added is, and any other changes nothing.

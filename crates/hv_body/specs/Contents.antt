@@ -25,7 +25,7 @@ new_contents (Device names) size (Some device) = Some (Emulated device)
 new_contents (Real area offset) size None = Some (Shared area offset)
 new_contents _ size _ = None
 
--- A fetch: no device answers one, and of a shared region the area is asked, where it begins in the area.
+-- A fetch: no device answers one, and of a region that is shared the area is asked, at the region's start there plus the offset.
 abbrev pub fetched : {D : Type 0} → Contents D → (offset size : ℕ) → Answer
 fetched (Writable bytes) offset size = Answered (number_at bytes offset size)
 fetched (ReadOnly bytes) offset size = Answered (number_at bytes offset size)

@@ -35,7 +35,8 @@ abbrev pub IsBody : {D : Type 0} → Option (Live D) → Type 0
 IsBody None = Unit {0}
 IsBody (Some live) = IsLive live
 
--- The contents are memory that has bytes up to an end, or it shows an area.
+-- The contents are memory that has bytes up to an end, a device, or a part of an area that ends within the most bytes of
+-- one.
 abbrev pub ReachesTo : {D : Type 0} → Contents D → (end : ℕ) → Type 0
 ReachesTo (Writable bytes) end = end ≤ length bytes
 ReachesTo (ReadOnly bytes) end = end ≤ length bytes
@@ -53,7 +54,7 @@ abbrev pub HasMemory : {D : Type 0} → Option (Live D) → (end : ℕ) → Type
 HasMemory None end = ⊥
 HasMemory (Some live) end = IsMemory live.contents end
 
--- The memory that a region of its own needs: all zero for RAM and ROM, and else none.
+-- The memory that a region of this form needs: all zero for RAM and ROM, and else none.
 abbrev pub zeros_for : Form → (size : ℕ) → List ℕ
 zeros_for Ram size = replicate size 0
 zeros_for Rom size = replicate size 0

@@ -16,7 +16,7 @@ is_type Memory Memory = true
 is_type Io Io = true
 is_type _ _ = false
 
--- A window holds an access that is of its generation and its type, and all of whose bytes it has.
+-- A window holds an access that is of its birth and its type, and all of whose bytes it has.
 abbrev pub holds : Place → Window → Bool
 holds place window =
     (window.birth == place.birth) && is_type window.kind place.kind
@@ -41,9 +41,9 @@ abbrev pub lies_apart : List Window → Window → Bool
 lies_apart windows window =
     nat_le (window.base + window.size) (end_of window.kind) && not (list_any (meets window) windows)
 
--- A window belongs to a region of the guest that has none there.
-abbrev pub has_owner : List Window → Window → Bool
-has_owner windows window =
+-- A window's owner is a region of the guest that has no window there.
+abbrev pub is_new_owner : List Window → Window → Bool
+is_new_owner windows window =
     nat_lt window.owner GUEST_REGIONS && not (list_any (λ there. there.owner == window.owner) windows)
 
 -- A window isn't empty, and shows nothing behind a region of so many bytes.

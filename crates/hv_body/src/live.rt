@@ -6,7 +6,7 @@ ghost use Rattle.hv_body.specs.Rules.{IsLive, ReachesTo};
 
 use crate::contents::Contents;
 use crate::place::{Answer, Place};
-use crate::window::{has_owner, lies_within, put, window_for};
+use crate::window::{is_new_owner, lies_within, put, window_for};
 use hv_emu::Emulator;
 use hv_region::{RegionPlan, Window, WindowList};
 
@@ -87,7 +87,7 @@ impl<E: Emulator> Live<E> {
         ensures rules { IsLive self.new }
     {
         if window.birth == self.birth
-            && has_owner(&self.windows, &window)
+            && is_new_owner(&self.windows, &window)
             && lies_within(self.plan.size, &window)
         {
             put(&mut self.windows, window);

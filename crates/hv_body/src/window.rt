@@ -3,7 +3,7 @@ ghost use Rattle.std.specs.Prelude.{◌≡◌, ◌≤◌, ◌<◌, ◌==◌, Con
 ghost use Rattle.std.specs.List.{find, list_any};
 ghost use Rattle.hv_region.specs.Windows.{Holds, HasNone};
 ghost use Rattle.hv_text.specs.declared.limits.TheConstants.{GUEST_REGIONS};
-ghost use Rattle.hv_body.specs.Windows.{holds, lies_apart, has_owner, lies_within, put_in_order};
+ghost use Rattle.hv_body.specs.Windows.{holds, lies_apart, is_new_owner, lies_within, put_in_order};
 
 use crate::place::Place;
 use hv_region::{Window, WindowList};
@@ -43,8 +43,8 @@ fn has_window(windows: &WindowList, owner: u8) -> bool
 }
 
 /// Whether a window belongs to a region that has none there.
-pub fn has_owner(windows: &WindowList, window: &Window) -> bool
-    ensures { result ≡ has_owner windows.now window.now }
+pub fn is_new_owner(windows: &WindowList, window: &Window) -> bool
+    ensures { result ≡ is_new_owner windows.now window.now }
 {
     (window.owner as usize) < GUEST_REGIONS && !has_window(windows, window.owner)
 }

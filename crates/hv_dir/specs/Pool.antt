@@ -1,4 +1,4 @@
--- The devices that no guest has, in the order in which they are found, and who gets which.
+-- The devices that no guest has, in the order in which they are found, and which of them a list of names takes.
 use Rattle.std.specs.Prelude.{ℕ, List, [], ◌∷◌, ◌++◌, map, Option, None, position, remove, slice_get}
 use Rattle.std.specs.Option.{option_and_then, option_map, option_or}
 use Rattle.hv_emu.specs.Device.{DevState, has_name, after_reset}

@@ -1,5 +1,5 @@
 //! The pool of devices.
-ghost use Rattle.std.specs.Prelude.{◌≡◌, ◌<◌, All, map, Some, None, IfOk, OnOk, OnErr, position};
+ghost use Rattle.std.specs.Prelude.{◌≡◌, ◌<◌, ◌≤◌, All, map, Some, None, IfOk, OnOk, OnErr, position};
 ghost use Rattle.hv_emu.specs.Device.{has_name, IsInReset};
 ghost use Rattle.hv_dir.specs.Pool.{devices_of, place_of, taken, given_back};
 
@@ -63,8 +63,8 @@ impl<E: Emulator> ShelfOf<E> {
         None
     }
 
-    /// Takes a device out: of the names that would do, the best one first, the first name that
-    /// some device has, and of the devices that have it the first.
+    /// Takes a device out: the first name that some device has decides, and of the devices that have
+    /// it the first is taken.
     pub fn take(&mut self, compatible: &Strings) -> Result<E, NoEmulator>
         ensures ok { IfOk result (λ part. taken (devices_of E.state self.old) compatible.now
             ≡ Some (E.state part, devices_of E.state self.new)) }
@@ -81,6 +81,7 @@ impl<E: Emulator> ShelfOf<E> {
     pub fn make_room(&mut self, _alloc: Global) -> Result<(), AllocError>
         ensures parts { self.new.parts ≡ self.old.parts }
         ensures room { OnOk result (0 < self.new.room) }
+        ensures kept { self.old.room ≤ self.new.room }
     {
         self.parts.reserve(1)
     }

@@ -35,7 +35,7 @@ without v (e ∷ es) = if v == e.vcpu then without v es else e ∷ without v es
 abbrev pub appended : QueueEntry → List QueueEntry → List QueueEntry
 appended e q = without e.vcpu q ++ e ∷ []
 
--- An entry before all that follow it, unless the best of them has a greater priority.
+-- The better of an entry and the best one behind it: the entry, unless the other has a greater priority.
 abbrev pub better : QueueEntry → Option QueueEntry → Option QueueEntry
 better e None = Some e
 better e (Some f) = if nat_lt e.priority f.priority then Some f else Some e

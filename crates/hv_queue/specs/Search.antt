@@ -1,4 +1,4 @@
--- The search for the best entry, entry by entry. Used by proofs alone.
+-- The search for the best entry, entry by entry. No public clause uses it.
 use Rattle.std.specs.Prelude.{nat_lt, if◌then◌else◌, Option, Some, None}
 use Rattle.hv_queue.specs.declared.entry.QueueEntry.{QueueEntry}
 

@@ -1,6 +1,6 @@
 //! An entry of a queue.
 
-/// A VCPU that waits for its hart.
+/// A VCPU that is ready for its hart.
 #[derive(Clone, Copy, Debug, PartialEq, Eq, Drop)]
 pub struct QueueEntry {
     /// Its number on the board, 0 to 32.

@@ -2,7 +2,7 @@
 use Rattle.std.specs.Prelude.{ℕ, List, [], Option, None}
 use Rattle.hv_region.specs.declared.window.Window.{Window}
 
--- A space has windows, and while the guest's clock is live, the index of the clock's region and its birth.
+-- A space has windows, and while the guest's clock is live, the index of the clock's region and the guest's birth.
 pub record SpaceState : Type 0 where
   pub windows : List Window
   pub clock : Option (ℕ × ℕ)

@@ -50,7 +50,7 @@ impl Space {
         &mut self.windows
     }
 
-    /// The index of the clock's region, 0 to 15, and its birth, or None while no clock is live.
+    /// The index of the clock's region and the guest's birth, or None while no clock is live.
     pub fn clock(&self) -> Option<(u8, u64)>
         ensures { result ≡ self.now.clock }
     {

@@ -1,5 +1,5 @@
 -- The table beneath a history lock: the seats' views, the table's rule, and what each step does.
--- Used by private items and proofs alone.
+-- No public clause uses it; the view of a handle is made of its seat here.
 use Rattle.std.specs.Prelude.{◌≡◌, ◌≢◌, ℕ, zero, suc, ◌<◌, Bool, true, false, List, [], ◌∷◌, ◌++◌, length, slice_index, Option, Some, None}
 use mathlib.Core.Option.{some}
 use lib.ListN.{get_elem?}

@@ -42,7 +42,7 @@ entered _ ctx = ctx
 unfoldable pub carried_out : Ctx → ℕ → Outcome
 carried_out ctx word = record { context = entered (attempted ctx word).answer (attempted ctx word).context; answer = (attempted ctx word).answer }
 
--- An access leaves the context and has a size, an address that is a multiple of it, and a register or a value of that size.
+-- An access has a size, an address that is a multiple of it, and a register or a value of that size.
 abbrev pub IsAccess : After → Type 0
 IsAccess (Load address size is_signed rd) = IsSize size × (rd < 32) × (address % size ≡ 0)
 IsAccess (Store address size value) = IsSize size × (value < 2 ^ (8 * size)) × (address % size ≡ 0)

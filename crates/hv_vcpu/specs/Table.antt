@@ -1,4 +1,4 @@
--- The states of a VCPU and the moves between them.
+-- The states of a VCPU and the moves between them; that an instruction makes it wait and an interrupt wakes it is no move.
 use Rattle.std.specs.Prelude.{Bool, true, false, Result, Ok, Err}
 use Rattle.hv_kinds.specs.declared.state.State.{State}
 use Rattle.hv_kinds.specs.declared.state.State.TheVariants.{Unknown, Reset, Ready, Running, Paused, Halted}

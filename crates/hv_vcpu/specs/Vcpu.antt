@@ -55,7 +55,7 @@ started start index pins = record {
   pins = pins;
 }
 
--- A VCPU of no guest.
+-- A VCPU that isn't there.
 abbrev pub unknown : VcpuValue
 unknown = record {
   state = Unknown;
@@ -66,14 +66,15 @@ unknown = record {
   pins = replicate GUEST_REGIONS no_pins;
 }
 
--- What holds of each VCPU: its plan keeps its rules, and its context has the pins that all regions of its guest drive, joined.
+-- What holds of each VCPU: its index is one of a guest's, its plan keeps its rules, each region of its guest has a row of
+-- pins, and its context has the pins that all of them drive, joined.
 pub record IsVcpu (v : VcpuValue) : Type 0 where
   pub index : v.index < GUEST_VCPUS
   pub plan : IsVcpuPlan v.plan
   pub rows : length v.pins ≡ GUEST_REGIONS
   pub joined : v.context.pins ≡ joined v.pins
 
--- What only a VCPU of a guest has.
+-- What only a VCPU that is there has.
 abbrev pub unless_unknown : {A : Type 0} → State → A → Option A
 unless_unknown Unknown a = None
 unless_unknown _ a = Some a

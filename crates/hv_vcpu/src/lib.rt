@@ -1,5 +1,5 @@
 //! The VCPUs of a board: their states, and the instructions that they carry out.
-//! move: what leads a VCPU from one state to another, from a command, a hart or an interrupt
+//! move: what leads a VCPU from one state to another, from a command or a hart
 //! waiting: paused by the instruction WFI until an interrupt that is enabled is pending
 //! context: the registers and the control and status registers of a VCPU
 //! birth: how many guests were claimed before the one that the VCPU belongs to

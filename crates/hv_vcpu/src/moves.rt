@@ -6,7 +6,7 @@ use hv_region::VcpuPlan;
 /// What leads a VCPU to another state.
 #[derive(Clone, Copy, Debug, PartialEq, Eq)]
 pub enum Move {
-    /// It becomes a VCPU of a guest.
+    /// It is there from now on.
     Add {
         /// How many guests were claimed before.
         birth: u64,
@@ -22,7 +22,7 @@ pub enum Move {
     Pause,
     Halt,
     Reset,
-    /// It is no VCPU of a guest any more.
+    /// It isn't there any more.
     Drop,
 }
 

@@ -50,7 +50,7 @@ impl Model for Vcpu {
 }
 
 impl Vcpu {
-    /// A VCPU of no guest.
+    /// A VCPU that isn't there: its state is Unknown.
     pub fn new() -> Vcpu
         ensures { result ≡ unknown }
     {
@@ -79,7 +79,7 @@ impl Vcpu {
         &self.context
     }
 
-    /// How many guests were claimed before its own, or None for a VCPU of no guest.
+    /// How many guests were claimed before its own, or None while its state is Unknown.
     pub fn birth(&self) -> Option<u64>
         ensures { result ≡ birth_of self.now }
     {
@@ -89,7 +89,7 @@ impl Vcpu {
         }
     }
 
-    /// How it begins, or None for a VCPU of no guest.
+    /// How it begins, or None while its state is Unknown.
     pub fn plan(&self) -> Option<&VcpuPlan>
         ensures { option_copied result ≡ plan_of self.now }
     {
@@ -142,7 +142,7 @@ impl Vcpu {
         after
     }
 
-    /// Enters a trap, of an interrupt or of an access that was denied.
+    /// Enters a trap, of an interrupt, or of an instruction or an access that no region gave.
     pub fn trapped(&mut self, cause: u64, value: u64)
         requires running { IsTrue (is_running self.old.state) }
         ensures { self.new ≡ after_trap self.old cause value }
