@@ -1,6 +1,6 @@
 //! Values of properties worked out by hand, and a deep tree let go.
 use super::*;
-use hv_text::Bytes;
+use hv_text::{Bytes, Items};
 use std::alloc::{AllocError, Global};
 use std::test::Fail;
 
