@@ -1,12 +1,14 @@
 //! The program: standard input to standard output.
 #![tactic(auto)]
 
+mod parts;
+
 use hv_base::{InSource, OutSink};
 use hv_emu::Emulator;
 use hv_plic::Plic;
-use hv_text::SLOTS;
 use hv_timer::Timer;
 use hv_uart::Uart;
+use parts::add;
 use std::alloc::{AllocError, Global};
 use std::env::{self, Env};
 use std::io::Write;
@@ -41,15 +43,30 @@ fn carry_out(
 ) -> Result<Status, AllocError> {
     let alloc = rt.alloc();
     let mut parts: Vec<Box<dyn Emulator + Send>> = Vec::new(alloc);
-    for _ in 0..SLOTS {
-        parts.push(Box::new(alloc, Uart::new(alloc)?)?)?;
-    }
-    for _ in 0..SLOTS {
-        parts.push(Box::new(alloc, Plic::new())?)?;
-    }
-    for _ in 0..SLOTS {
-        parts.push(Box::new(alloc, Timer::new())?)?;
-    }
+    add(&mut parts, Box::new(alloc, Uart::new(alloc)?)?)?;
+    add(&mut parts, Box::new(alloc, Uart::new(alloc)?)?)?;
+    add(&mut parts, Box::new(alloc, Uart::new(alloc)?)?)?;
+    add(&mut parts, Box::new(alloc, Uart::new(alloc)?)?)?;
+    add(&mut parts, Box::new(alloc, Uart::new(alloc)?)?)?;
+    add(&mut parts, Box::new(alloc, Uart::new(alloc)?)?)?;
+    add(&mut parts, Box::new(alloc, Uart::new(alloc)?)?)?;
+    add(&mut parts, Box::new(alloc, Uart::new(alloc)?)?)?;
+    add(&mut parts, Box::new(alloc, Plic::new())?)?;
+    add(&mut parts, Box::new(alloc, Plic::new())?)?;
+    add(&mut parts, Box::new(alloc, Plic::new())?)?;
+    add(&mut parts, Box::new(alloc, Plic::new())?)?;
+    add(&mut parts, Box::new(alloc, Plic::new())?)?;
+    add(&mut parts, Box::new(alloc, Plic::new())?)?;
+    add(&mut parts, Box::new(alloc, Plic::new())?)?;
+    add(&mut parts, Box::new(alloc, Plic::new())?)?;
+    add(&mut parts, Box::new(alloc, Timer::new())?)?;
+    add(&mut parts, Box::new(alloc, Timer::new())?)?;
+    add(&mut parts, Box::new(alloc, Timer::new())?)?;
+    add(&mut parts, Box::new(alloc, Timer::new())?)?;
+    add(&mut parts, Box::new(alloc, Timer::new())?)?;
+    add(&mut parts, Box::new(alloc, Timer::new())?)?;
+    add(&mut parts, Box::new(alloc, Timer::new())?)?;
+    add(&mut parts, Box::new(alloc, Timer::new())?)?;
     let mut source = InSource::new(rt.reader());
     let mut sink = OutSink::new(io::writer(rt));
     let mut kept = KeptOf { run: None };
