@@ -42,6 +42,7 @@ fn carry_out(
     words: &[String],
 ) -> Result<Status, AllocError> {
     let alloc = rt.alloc();
+    // A line each: what a loop keeps of emulators in boxes can't be named in its invariant.
     let mut parts: Vec<Box<dyn Emulator + Send>> = Vec::new(alloc);
     add(&mut parts, Box::new(alloc, Uart::new(alloc)?)?)?;
     add(&mut parts, Box::new(alloc, Uart::new(alloc)?)?)?;
