@@ -8,8 +8,7 @@ use super::*;
 use hv_emu::Emulator;
 use hv_kinds::AddressType;
 use hv_region::{Form, RegionPlan, Window};
-use hv_text::{Bytes, Strings};
-use hv_uart::Uart;
+use hv_text::Bytes;
 use std::alloc::Global;
 use std::test::Fail;
 
@@ -199,31 +198,6 @@ fn forgets_what_a_region_held(rt: HostRuntime) -> Result<(), Fail> {
     fill(alloc, &mut ram, Form::Ram, 8, None)?;
     assert!(rt; load(&mut ram, BASE, 8) == ZERO);
     assert!(rt; load(&mut ram, BASE + 8, 1) == Answer::NotHere);
-    Ok(())
-}
-
-#[test]
-fn asks_a_device(rt: HostRuntime) -> Result<(), Fail> {
-    let alloc = rt.alloc();
-    let part: Box<dyn Emulator + Send> = Box::new(alloc, Uart::new(alloc)?)?;
-    let mut uart = live(alloc, Form::Device(Strings::new(alloc)?), 8, Some(part))?;
-    assert!(rt; uart.fetch(at(BASE, 4)) == Answer::NoExec);
-    assert!(rt; load(&mut uart, BASE, 2) == Answer::Denied);
-    assert!(rt; load(&mut uart, BASE + 5, 1) == Answer::Answered(0x60));
-    assert!(rt; uart.write(at(BASE, 2), 0x41) == Answer::Denied);
-    assert!(rt; uart.write(at(BASE, 1), 0x41) == ZERO);
-    assert!(rt; uart.serial() && uart.output_at(0) == Some(0x41));
-    assert!(rt; uart.write(at(BASE + 1, 1), 1) == ZERO);
-    uart.source(1, true);
-    uart.tick();
-    assert!(rt; !uart.line() && !uart.pins(0).ext);
-    uart.feed(0x61);
-    assert!(rt; uart.line());
-    uart.reset();
-    assert!(rt; !uart.line());
-    assert!(rt; uart.byte(0) == None);
-    assert!(rt; uart.clear().is_some());
-    assert!(rt; !uart.serial());
     Ok(())
 }
 
