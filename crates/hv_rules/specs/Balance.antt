@@ -1,5 +1,5 @@
 -- The balancing of queues: from the longest to the shortest.
-use Rattle.std.specs.Prelude.{ℕ, ◌+◌, nat_le, get_or, Bool, true, false, if◌then◌else◌, Option, None, Some, List, [], ◌∷◌}
+use Rattle.std.specs.Prelude.{ℕ, ◌+◌, nat_le, get_or, Bool, if◌then◌else◌, Option, None, Some, List, [], ◌∷◌}
 use Rattle.std.specs.List.{list_all}
 use Rattle.hv_answer.specs.declared.reply.Moved.{Moved}
 use Rattle.hv_queue.specs.declared.entry.QueueEntry.{QueueEntry}

@@ -7,8 +7,8 @@ use Rattle.hv_region.specs.declared.plan.RegionPlan.{RegionPlan}
 use Rattle.hv_region.specs.declared.plan.VcpuPlan.{VcpuPlan}
 use Rattle.hv_region.specs.declared.window.Window.{Window}
 
--- A load or store that an instruction leaves pending: where it goes, how many bytes it has, and what it stores or where it
--- loads to.
+-- A load or store that an instruction leaves pending: where it goes, how many bytes it has, and what it stores or where
+-- it loads to.
 pub data Pending : Type 0 where
   load : (address size : ℕ) → (is_signed : Bool) → (register : ℕ) → Pending
   store : (address size value : ℕ) → Pending
@@ -27,8 +27,8 @@ pub record Carry : Type 0 where
   -- the lengths of all queues, from each of them to all, and the entry that is moved, from the queue that gives it
   pub lengths : List ℕ
   pub moved : Option QueueEntry
-  -- the address of the instruction that is fetched, from the VCPU to the body, and the access that it leaves pending, from
-  -- the VCPU to the hart
+  -- the address of the instruction that is fetched, from the VCPU to the body, and the access that it leaves pending,
+  -- from the VCPU to the hart
   pub pc : Option ℕ
   pub pending : Option Pending
   -- why a cell refuses a step before another is asked: a name, from the terminal to the directory, and an addition,

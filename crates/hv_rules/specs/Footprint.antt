@@ -1,5 +1,5 @@
 -- Which components a step touches beside its actor, in the order in which they are locked.
-use Rattle.std.specs.Prelude.{ℕ, ◌%◌, nat_lt, if◌then◌else◌, Option, None, Some, Ok, Err, List, [], ◌∷◌, ◌++◌, map}
+use Rattle.std.specs.Prelude.{ℕ, ◌%◌, nat_lt, if◌then◌else◌, Option, None, Some, Ok, List, [], ◌∷◌, ◌++◌, map}
 use Rattle.std.specs.List.{range_with_len}
 use Rattle.hv_answer.specs.declared.reply.Reply.{Reply}
 use Rattle.hv_answer.specs.declared.reply.Reply.TheVariants as reply
@@ -12,8 +12,8 @@ use Rattle.hv_step.specs.declared.step.Step.{Step}
 use Rattle.hv_step.specs.declared.step.Step.TheVariants as step
 use Rattle.hv_rules.specs.Carry.{Carry}
 
--- The components of the hypervisor: the directory, the shelf and the files, a space for each slot, a queue for each hart,
--- the VCPUs, a body for each slot and row of a region, and the areas.
+-- The components of the hypervisor: the directory, the shelf and the files, a space for each slot, a queue for each
+-- hart, the VCPUs, a body for each slot and row of a region, and the areas.
 pub data Component : Type 0 where
   Dir : Component
   Shelf : Component

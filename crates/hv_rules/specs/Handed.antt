@@ -8,7 +8,14 @@ handed_over (step.Run s) c = record nothing { lines = c.lines }
 handed_over (step.Name s) c = record nothing { stopped = c.stopped }
 handed_over (step.Stage s) c = record nothing { guest = c.guest }
 handed_over (step.Add s) c =
-    record nothing { row = c.row; plan = c.plan; stopped = c.stopped; target = c.target; device = c.device; parent = c.parent }
+    record nothing {
+      row = c.row;
+      plan = c.plan;
+      stopped = c.stopped;
+      target = c.target;
+      device = c.device;
+      parent = c.parent;
+    }
 handed_over (step.Drop s) c = record nothing { row = c.row; target = c.target; device = c.device; parent = c.parent }
 handed_over (step.Load s) c = record nothing { bytes = c.bytes; window = c.window; area = c.area }
 handed_over (step.Mem s) c = record nothing { window = c.window; area = c.area }

@@ -6,6 +6,7 @@ use Rattle.hv_answer.specs.declared.reply.Reply.{Reply}
 use Rattle.hv_answer.specs.declared.reply.Reply.TheVariants as reply
 use Rattle.hv_kinds.specs.declared.access.AccessKind.{AccessKind}
 use Rattle.hv_kinds.specs.declared.access.AccessKind.TheVariants as access
+use Rattle.hv_kinds.specs.declared.access.Direction.{Direction}
 use Rattle.hv_kinds.specs.declared.access.Direction.TheVariants.{Read, Write}
 use Rattle.hv_kinds.specs.declared.changes.SignalChanges.{SignalChanges}
 use Rattle.hv_kinds.specs.declared.generation.Generation.{Generation}
@@ -38,8 +39,8 @@ pub record HartState : Type 0 where
   -- the interrupt steps that it owes, the next one first
   pub owed : List Step
 
--- What a hart's own state says of its next step, by the first of these that fits: a step that it owes, the access that is
--- pending, nothing at its end, the tick of this turn, which hart 0 makes, a VCPU to be had, or one that it runs.
+-- What a hart's own state says of its next step, by the first of these that fits: a step that it owes, the access that
+-- is pending, nothing at its end, the tick of this turn, which hart 0 makes, a VCPU to be had, or one that it runs.
 pub data Row : Type 0 where
   owes : Step → Row
   waits : (vcpu : ℕ) → Pending → Generation → Row
@@ -60,7 +61,8 @@ with_current (Some current) = runs current
 -- Where nothing is owed and no access is pending.
 abbrev pub turn_row : (number : ℕ) → HartState → (left : ℕ) → Row
 turn_row number hart zero = ends
-turn_row number hart (suc left) = if (number == 0) && not hart.ticked then ticks (hart.turns % SLOTS) else with_current hart.current
+turn_row number hart (suc left) =
+    if (number == 0) && not hart.ticked then ticks (hart.turns % SLOTS) else with_current hart.current
 
 abbrev pub pending_row : (number : ℕ) → HartState → Option (Pending × Generation) → Row
 pending_row number hart None = turn_row number hart hart.left
@@ -73,13 +75,25 @@ owed_row number hart (next ∷ later) = owes next
 abbrev pub row_of : (number : ℕ) → HartState → Row
 row_of number hart = owed_row number hart hart.owed
 
+-- An access of a VCPU in a row's window.
+abbrev pub access_of : (vcpu row address size : ℕ) → Direction → (value : ℕ) → Generation → Access
+access_of vcpu row address size direction value generation = record {
+  vcpu = vcpu;
+  row = row;
+  address = address;
+  size = size;
+  direction = direction;
+  value = value;
+  generation = generation;
+}
+
 -- The step is the access that is pending; of a load no value is stored, and it says how the value is taken.
 abbrev pub IsAccess : (vcpu : ℕ) → Pending → Generation → Access → Carry → Type 0
 IsAccess vcpu (load address size is_signed register) generation s c =
-    (s ≡ record { vcpu = vcpu; row = s.row; address = address; size = size; direction = Read; value = 0; generation = generation })
+    (s ≡ access_of vcpu s.row address size Read 0 generation)
     × (c.pending ≡ Some (load address size is_signed register))
 IsAccess vcpu (store address size value) generation s c =
-    (s ≡ record { vcpu = vcpu; row = s.row; address = address; size = size; direction = Write; value = value; generation = generation })
+    (s ≡ access_of vcpu s.row address size Write value generation)
     × (c.pending ≡ Some (store address size value))
 
 -- The step is the fault of the access that is pending.
@@ -89,8 +103,8 @@ IsPendingFault vcpu (load address size is_signed register) generation s =
 IsPendingFault vcpu (store address size value) generation s =
     s ≡ record { vcpu = vcpu; address = address; size = size; access = access.Write; generation = generation }
 
--- While an access is pending: the VCPU is left where it doesn't run here any more; else the access is made where a window
--- holds it, and else it is a fault.
+-- While an access is pending: the VCPU is left where it doesn't run here any more; else the access is made where a
+-- window holds it, and else it is a fault.
 abbrev pub FitsPending : (vcpu : ℕ) → Pending → Generation → Step → Carry → Type 0
 FitsPending vcpu pending generation (step.Leave s) c = s.vcpu ≡ vcpu
 FitsPending vcpu pending generation (step.Access s) c = IsAccess vcpu pending generation s c
@@ -111,8 +125,8 @@ instruction_size = 4
 abbrev pub slot_of : (vcpu : ℕ) → ℕ
 slot_of vcpu = (vcpu - 1) / GUEST_VCPUS
 
--- With slice left the orphan VCPU balances the queues of all harts; another takes an interrupt, or fetches, or faults where
--- no window holds its pc.
+-- With slice left the orphan VCPU balances the queues of all harts; another takes an interrupt, or fetches, or faults
+-- where no window holds its pc.
 abbrev pub FitsRun : (harts vcpu : ℕ) → Step → Carry → Type 0
 FitsRun harts zero (step.Balance s) c = length c.lengths ≡ harts
 FitsRun harts zero _ c = ⊥
@@ -193,9 +207,10 @@ faulted hart access.Execute = turned (with_used hart)
 faulted hart _ = turned (without_pending hart)
 
 -- The clock's region and its generation in the slot that is ticked.
-abbrev pub ticked_signals : (slot : ℕ) → (clock : Option (ℕ × ℕ)) → (parent : Option (ℕ × ℕ)) → SignalChanges → List Step
+abbrev pub ticked_signals : (slot : ℕ) → (clock parent : Option (ℕ × ℕ)) → SignalChanges → List Step
 ticked_signals slot None parent changes = []
-ticked_signals slot (Some clock) parent changes = owed_for (record { slot = slot; birth = clock.1 }) clock.0 parent changes
+ticked_signals slot (Some clock) parent changes =
+    owed_for (record { slot = slot; birth = clock.1 }) clock.0 parent changes
 
 -- What an event leaves of a hart.
 abbrev pub hart_after : HartState → Step → Reply → Carry → HartState

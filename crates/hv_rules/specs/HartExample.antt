@@ -1,12 +1,12 @@
 -- Harts at several points of their programs.
-use Rattle.std.specs.Prelude.{ℕ, true, false, Option, None, Some, [], ◌∷◌}
+use Rattle.std.specs.Prelude.{ℕ, true, false, None, Some, [], ◌∷◌}
 use Rattle.hv_kinds.specs.declared.access.AccessKind.TheVariants as access
 use Rattle.hv_kinds.specs.declared.access.Direction.TheVariants.{Read}
 use Rattle.hv_kinds.specs.declared.generation.Generation.{Generation}
 use Rattle.hv_step.specs.declared.step.Step.{Step}
 use Rattle.hv_step.specs.declared.step.Step.TheVariants as step
-use Rattle.hv_rules.specs.Carry.{Carry, nothing, Pending, load}
-use Rattle.hv_rules.specs.Hart.{HartState, Current}
+use Rattle.hv_rules.specs.Carry.{Carry, nothing, load}
+use Rattle.hv_rules.specs.Hart.{HartState, access_of}
 
 -- A hart that has made nothing yet.
 abbrev pub new_hart : HartState
@@ -37,7 +37,7 @@ loading = record (running 1) { pending = Some (load 268435460 4 true 10, guest) 
 -- The access of that load in a region, and its fault.
 abbrev pub access_in : (row : ℕ) → (size : ℕ) → Step
 access_in row size =
-    step.Access (record { vcpu = 5; row = row; address = 268435460; size = size; direction = Read; value = 0; generation = guest })
+    step.Access (access_of 5 row 268435460 size Read 0 guest)
 
 abbrev pub load_carry : Carry
 load_carry = record nothing { pending = Some (load 268435460 4 true 10) }

@@ -1,5 +1,5 @@
 -- A line of a terminal: which steps it has, where it is among them, and where a reply leaves it.
-use Rattle.std.specs.Prelude.{◌≡◌, ℕ, zero, suc, ◌+◌, Bool, true, false, not, ◌&&◌, if◌then◌else◌, Option, None, Some, Ok, List, [], ◌∷◌, ◌++◌, map, length, slice_get}
+use Rattle.std.specs.Prelude.{ℕ, zero, suc, ◌+◌, Bool, true, false, not, ◌&&◌, if◌then◌else◌, Option, None, Some, Ok, List, [], ◌∷◌, ◌++◌, map, slice_get}
 use Rattle.hv_answer.specs.declared.reply.Reply.{Reply}
 use Rattle.hv_answer.specs.declared.reply.Reply.TheVariants as reply
 use Rattle.hv_kinds.specs.declared.generation.Generation.{Generation}
@@ -24,8 +24,8 @@ pub data Change : Type 0 where
   halt : Change
   reset : Change
 
--- What a line asks for: one step, rests, a look at each VCPU of the board, the life or the end of a guest, or a change of
--- each of its VCPUs.
+-- What a line asks for: one step, rests, a look at each VCPU of the board, the life or the end of a guest, or a change
+-- of each of its VCPUs.
 pub data Asked : Type 0 where
   once : Step → Asked
   rests : (count : ℕ) → Asked
@@ -107,8 +107,8 @@ pub data Place : Type 0 where
   back : (made : List Ask) → Place
   over : Place
 
--- A line: what it asks for, the regions of its guest's plan, slot and birth of the guest that it made or ends, and where
--- it is.
+-- A line: what it asks for, the regions of its guest's plan, slot and birth of the guest that it made or ends, and
+-- where it is.
 pub record LineState : Type 0 where
   pub asked : Asked
   pub regions : List RegionPlan
@@ -117,7 +117,12 @@ pub record LineState : Type 0 where
 
 -- A line that is begun, of a guest with so many VCPUs and these regions.
 abbrev pub begun : Asked → (vcpus : ℕ) → List RegionPlan → LineState
-begun asked vcpus regions = record { asked = asked; regions = regions; guest = None; place = on [] (steps_of asked vcpus regions) }
+begun asked vcpus regions = record {
+  asked = asked;
+  regions = regions;
+  guest = None;
+  place = on [] (steps_of asked vcpus regions);
+}
 
 -- On its way back a line drops the regions that it added, and gives up its claim; the other steps are not undone.
 abbrev pub undoing : Ask → Ask
@@ -143,8 +148,8 @@ pub data Verdict : Type 0 where
 abbrev pub ends_if : (refused : Bool) → Verdict
 ends_if refused = if refused then ends else goes_on
 
--- A line turns back where an addition is refused, and ends where the directory refuses a later step by guest; after every
--- other reply it goes on.
+-- A line turns back where an addition is refused, and ends where the directory refuses a later step by guest; after
+-- every other reply it goes on.
 abbrev pub later_verdict : Ask → Reply → Verdict
 later_verdict (add row) r = if is_refused r then turns_back else goes_on
 later_verdict (change asked index) r = ends_if (is_refused_by_directory r)
@@ -222,10 +227,21 @@ step_of line given (look vcpu) = step.Look (record { vcpu = vcpu })
 step_of line given claim = step.Name (record { name = guest_name line.asked })
 step_of line given (turn from to) = step.Stage (record { name = guest_name line.asked; from = from; to = to })
 step_of line given (add row) =
-    step.Add (record { name = guest_name line.asked; region = region_name line row; stage = Making; generation = given })
+    step.Add (record {
+      name = guest_name line.asked;
+      region = region_name line row;
+      stage = Making;
+      generation = given;
+    })
 step_of line given (drop stage row) =
-    step.Drop (record { name = guest_name line.asked; region = region_name line row; stage = stage; generation = given })
-step_of line given (add_vcpu index) = step.Vadd (record { vcpu = own_vcpu line.guest index; birth = own_birth line.guest })
+    step.Drop (record {
+      name = guest_name line.asked;
+      region = region_name line row;
+      stage = stage;
+      generation = given;
+    })
+step_of line given (add_vcpu index) =
+    step.Vadd (record { vcpu = own_vcpu line.guest index; birth = own_birth line.guest })
 step_of line given (drop_vcpu index) = step.Vdrop (record { vcpu = own_vcpu line.guest index })
 step_of line given (change asked index) =
     change_step asked (given_vcpu given index) (record { name = guest_name line.asked; generation = given })

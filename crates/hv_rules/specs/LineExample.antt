@@ -1,18 +1,17 @@
--- Lines of terminals at several points: the life of a guest of two VCPUs with a RAM, an alias of it, a serial port and a
--- region that isn't built.
-use Rattle.std.specs.Prelude.{ℕ, Bool, true, false, Option, None, Some, Ok, Err, List, [], ◌∷◌, codes}
+-- Lines of terminals at several points: the life of a guest of two VCPUs with a RAM, an alias of it, a serial port and
+-- a region that isn't built.
+use Rattle.std.specs.Prelude.{ℕ, Bool, true, false, None, Ok, Err, List, [], ◌∷◌, codes}
 use Rattle.hv_answer.specs.declared.reply.Reply.{Reply}
 use Rattle.hv_answer.specs.declared.reply.Reply.TheVariants as reply
-use Rattle.hv_kinds.specs.declared.address.AddressType.TheVariants.{Memory, Io}
+use Rattle.hv_kinds.specs.declared.address.AddressType.TheVariants.{Memory}
 use Rattle.hv_kinds.specs.declared.changes.SignalChanges.{SignalChanges}
 use Rattle.hv_kinds.specs.declared.generation.Generation.{Generation}
-use Rattle.hv_kinds.specs.declared.stage.Stage.TheVariants.{Making, Made, Ending}
 use Rattle.hv_region.specs.declared.plan.Form.{Form}
 use Rattle.hv_region.specs.declared.plan.Form.TheVariants.{Ram, Device, Alias}
 use Rattle.hv_region.specs.declared.plan.RegionPlan.{RegionPlan}
 use Rattle.hv_refusal.specs.declared.refusal.Refusal.TheVariants as refusal
 use Rattle.hv_rules.specs.Carry.{nothing}
-use Rattle.hv_rules.specs.Line.{LineState, Asked, create, destroy, each_vcpu, kick, reset, begun, line_after}
+use Rattle.hv_rules.specs.Line.{LineState, Asked, begun, line_after}
 
 abbrev pub region : (name : List ℕ) → Form → (detached : Bool) → RegionPlan
 region name form detached = record {

@@ -1,5 +1,5 @@
 -- The interrupt steps that an actor owes after a step on a device: samples of lines, and pins of VCPUs.
-use Rattle.std.specs.Prelude.{ℕ, ◌+◌, ◌*◌, ◌/◌, ◌%◌, ◌^◌, ◌==◌, Bool, true, false, if◌then◌else◌, Option, None, Some, List, [], ◌∷◌, ◌++◌, filter, map}
+use Rattle.std.specs.Prelude.{ℕ, ◌+◌, ◌*◌, ◌/◌, ◌%◌, ◌^◌, ◌==◌, Bool, true, false, Option, None, Some, List, [], ◌∷◌, ◌++◌, filter, map}
 use Rattle.std.specs.List.{range_with_len}
 use Rattle.hv_kinds.specs.declared.changes.SignalChanges.{SignalChanges}
 use Rattle.hv_kinds.specs.declared.generation.Generation.{Generation}
@@ -23,7 +23,8 @@ abbrev pub has_changed : (pins index : ℕ) → Bool
 has_changed pins index = pins / 2 ^ index % 2 == 1
 
 abbrev pub pin_step : Generation → (row index : ℕ) → Step
-pin_step generation row index = step.Pin (record { row = row; vcpu = vcpu_of generation.slot index; generation = generation })
+pin_step generation row index =
+    step.Pin (record { row = row; vcpu = vcpu_of generation.slot index; generation = generation })
 
 -- Each VCPU whose pins changed takes them from the region, by number.
 abbrev pub pin_steps : Generation → (row : ℕ) → (pins : ℕ) → List Step
@@ -31,4 +32,5 @@ pin_steps generation row pins = map (pin_step generation row) (filter (has_chang
 
 -- What changed of a region's signals is owed: first the sample, then the pins.
 abbrev pub owed_for : Generation → (row : ℕ) → (parent : Option (ℕ × ℕ)) → SignalChanges → List Step
-owed_for generation row parent changes = samples generation row parent changes.line ++ pin_steps generation row changes.pins
+owed_for generation row parent changes =
+    samples generation row parent changes.line ++ pin_steps generation row changes.pins

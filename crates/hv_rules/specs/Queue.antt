@@ -20,8 +20,8 @@ SaysMoved is_longest false queue moved = moved ≡ None
 SaysMoved true true queue moved = moved ≡ last_of queue
 SaysMoved false true queue moved = Unit {0}
 
--- Queue `number` agrees to the dispatch of its head, to an idle step where it is empty, and to a balance where its length
--- stands at its place among those handed over; of what moves it the VCPU decides.
+-- Queue `number` agrees to the dispatch of its head, to an idle step where it is empty, and to a balance where its
+-- length stands at its place among those handed over; of what moves it the VCPU decides.
 abbrev pub QueueAgrees : (number : ℕ) → List QueueEntry → Step → Reply → Carry → Type 0
 QueueAgrees number queue (step.Kick s) r c = Unit {0}
 QueueAgrees number queue (step.Resume s) r c = Unit {0}
@@ -60,7 +60,9 @@ queue_after number queue (step.Halt s) (reply.Halt (Ok done)) c = without s.vcpu
 queue_after number queue (step.Reset s) (reply.Reset (Ok done)) c = without s.vcpu queue
 queue_after number queue (step.Vdrop s) (reply.Vdrop (Ok done)) c = without s.vcpu queue
 queue_after number queue (step.Preempt s) r c = arrived s.vcpu c.priority queue
-queue_after number queue (step.Pin s) (reply.Pin (Some pinned)) c = if pinned.woke then arrived s.vcpu c.priority queue else queue
+queue_after number queue (step.Pin s) (reply.Pin (Some pinned)) c =
+    if pinned.woke then arrived s.vcpu c.priority queue else queue
 queue_after number queue (step.Dispatch s) (reply.Dispatch (Ok slice)) c = without s.vcpu queue
-queue_after number queue (step.Balance s) r c = balanced (number == longest c.lengths) (number == shortest c.lengths) c.moved queue
+queue_after number queue (step.Balance s) r c =
+    balanced (number == longest c.lengths) (number == shortest c.lengths) c.moved queue
 queue_after number queue _ r c = queue

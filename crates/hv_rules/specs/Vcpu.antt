@@ -30,7 +30,6 @@ use Rattle.hv_trap.specs.Trap.{chosen}
 use Rattle.hv_vcpu.specs.Instruction.{carried_out}
 use Rattle.hv_vcpu.specs.Table.{led}
 use Rattle.hv_vcpu.specs.Vcpu.{VcpuValue, birth_of, stepped, after_fetch, after_trap, loaded, stored, with_pins, woken, wakes}
-use Rattle.hv_vcpu.specs.declared.moves.Move.{Move}
 use Rattle.hv_vcpu.specs.declared.moves.Move.TheVariants as move
 use Rattle.hv_vcpu.specs.declared.moves.WrongState.{WrongState}
 use Rattle.hv_rules.specs.Carry.{Carry, Pending, load, store}
@@ -84,7 +83,8 @@ abbrev pub denied_cause : Direction → ℕ
 denied_cause Read = LOAD_ACCESS_FAULT
 denied_cause Write = STORE_ACCESS_FAULT
 
--- What a look shows of the context: pc, the registers x1 to x31, and the control and status registers as a read gives them.
+-- What a look shows of the context: pc, the registers x1 to x31, and the control and status registers as a read gives
+-- them.
 abbrev pub shown_registers : Ctx → Registers
 shown_registers ctx = record {
   pc = ctx.pc;
@@ -111,7 +111,12 @@ no_registers = record {
 -- What a look at a VCPU shows.
 abbrev pub look_in : State → VcpuValue → Look
 look_in state.Unknown v = record { state = state.Unknown; priority = 0; slice = 0; registers = no_registers }
-look_in s v = record { state = s; priority = v.plan.priority; slice = v.plan.slice; registers = shown_registers v.context }
+look_in s v = record {
+  state = s;
+  priority = v.plan.priority;
+  slice = v.plan.slice;
+  registers = shown_registers v.context;
+}
 
 abbrev pub is_same : ℕ → Option ℕ → Bool
 is_same birth None = false
@@ -135,7 +140,8 @@ TakesInterrupt (Some cause) r = r ≡ reply.Take cause
 abbrev pub AgreesToFetch : VcpuValue → Reply → Carry → Type 0
 AgreesToFetch v (reply.Fetch None) c = c.pending ≡ None
 AgreesToFetch v (reply.Fetch (Some fetched)) c =
-    Shows (carried_out v.context fetched.word).answer fetched.outcome × (c.pending ≡ pending_of (carried_out v.context fetched.word).answer)
+    Shows (carried_out v.context fetched.word).answer fetched.outcome
+    × (c.pending ≡ pending_of (carried_out v.context fetched.word).answer)
 AgreesToFetch v _ c = ⊥
 
 -- A fault of an instruction is at the VCPU's pc; of a load or store the hart says where.
@@ -144,27 +150,31 @@ AgreesToFault v access.Execute address = (address ≡ v.context.pc) × (chosen v
 AgreesToFault v access.Read address = Unit {0}
 AgreesToFault v access.Write address = Unit {0}
 
--- A pin is gone where the VCPU's guest is, and then no queue needs a priority; else the reply tells whether it wakes the
--- VCPU.
+-- A pin is gone where the VCPU's guest is, and then no queue needs a priority; else the reply tells whether it wakes
+-- the VCPU.
 abbrev pub AgreesToPin : VcpuValue → (row birth : ℕ) → Reply → Carry → Type 0
 AgreesToPin v row birth (reply.Pin None) c = (is_of birth v ≡ false) × (c.priority ≡ None)
 AgreesToPin v row birth (reply.Pin (Some pinned)) c =
     (is_of birth v ≡ true) × (pinned.woke ≡ wakes (with_pins row pinned.pins v)) × (c.priority ≡ Some v.plan.priority)
 AgreesToPin v row birth _ c = ⊥
 
--- A VCPU agrees to a step of an actor: a change of state is answered by the table of states, a hart's step is by the hart
--- that it runs on, and it runs no instruction while an interrupt can be taken.
+-- A VCPU agrees to a step of an actor: a change of state is answered by the table of states, a hart's step is by the
+-- hart that it runs on, and it runs no instruction while an interrupt can be taken.
 abbrev pub VcpuAgrees : (by : ActorId) → VcpuValue → Step → Reply → Carry → Type 0
 VcpuAgrees by v (step.Vadd s) r c = AgreesToAdd v s.birth c.vcpu r
 VcpuAgrees by v (step.Vdrop s) r c = r ≡ reply.Vdrop (answered (led move.Drop v.state))
-VcpuAgrees by v (step.Kick s) r c = (r ≡ reply.Kick (answered (led move.Kick v.state))) × (c.priority ≡ Some v.plan.priority)
-VcpuAgrees by v (step.Resume s) r c = (r ≡ reply.Resume (answered (led move.Resume v.state))) × (c.priority ≡ Some v.plan.priority)
+VcpuAgrees by v (step.Kick s) r c =
+    (r ≡ reply.Kick (answered (led move.Kick v.state))) × (c.priority ≡ Some v.plan.priority)
+VcpuAgrees by v (step.Resume s) r c =
+    (r ≡ reply.Resume (answered (led move.Resume v.state))) × (c.priority ≡ Some v.plan.priority)
 VcpuAgrees by v (step.Pause s) r c = r ≡ reply.Pause (answered (led move.Pause v.state))
 VcpuAgrees by v (step.Halt s) r c = r ≡ reply.Halt (answered (led move.Halt v.state))
 VcpuAgrees by v (step.Reset s) r c = r ≡ reply.Reset (answered (led move.Reset v.state))
 VcpuAgrees by v (step.Look s) r c = r ≡ reply.Look (look_in v.state v)
-VcpuAgrees (Hart h) v (step.Dispatch s) r c = r ≡ reply.Dispatch (dispatched v.plan.slice (led (move.Dispatch h) v.state))
-VcpuAgrees by v (step.Preempt s) r c = (runs_on by v.state ≡ true) × (r ≡ reply.Preempt) × (c.priority ≡ Some v.plan.priority)
+VcpuAgrees (Hart h) v (step.Dispatch s) r c =
+    r ≡ reply.Dispatch (dispatched v.plan.slice (led (move.Dispatch h) v.state))
+VcpuAgrees by v (step.Preempt s) r c =
+    (runs_on by v.state ≡ true) × (r ≡ reply.Preempt) × (c.priority ≡ Some v.plan.priority)
 VcpuAgrees by v (step.Leave s) r c = (runs_on by v.state ≡ false) × (r ≡ reply.Leave v.state)
 VcpuAgrees by v (step.Balance s) r c = runs_on by v.state ≡ true
 VcpuAgrees by v (step.Take s) r c = (runs_on by v.state ≡ true) × TakesInterrupt (chosen v.context) r
