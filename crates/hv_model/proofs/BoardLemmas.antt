@@ -13,7 +13,7 @@ use Rattle.hv_model.specs.Origin.{Origin}
 use Rattle.hv_model.specs.Cell.{Cell, Component, Actor, same_cell, same_actor, is_actor, rank_of}
 use Rattle.hv_model.specs.CellLaws.{same_actor-self, same_actor-only}
 use Rattle.hv_model.specs.Entry.{Entry}
-use Rattle.hv_model.specs.Rules.{rules, machine, components}
+use Rattle.hv_model.specs.Rules.{rules, machine, components_of}
 use Rattle.hv_model.specs.Terminal.{TerminalState, IsAtBootEnd}
 use Rattle.hv_model.specs.Legal.{first, start, Legal, reached, own_at_start}
 use Rattle.hv_model.specs.Rounds.{RoundsAreLegal}
@@ -25,7 +25,7 @@ no-component a (c ∷ cs) = no-component a cs
 
 other-actor : (O : Origin) (e : Entry) (a : ActorId) → touches (machine O) (Actor a) e ≡ true → Actor a ≡ Actor e.event.actor
 other-actor O e a t =
-    let cs = components O.opening.harts e.event e.carry in
+    let cs = components_of O.opening.harts e in
     let Goal : Bool → Type 0 = λ b. same_actor a e.event.actor ≡ b → (b || list_any (same_cell (Actor a)) (map Component cs)) ≡ true → Actor a ≡ Actor e.event.actor in
     elim (same_actor a e.event.actor) as Goal [
       | true ↦ λ same _. ap Actor (same_actor-only a e.event.actor same)

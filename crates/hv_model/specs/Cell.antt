@@ -1,5 +1,5 @@
 -- The cells of the hypervisor: its components and its actors.
-use Rattle.std.specs.Prelude.{ℕ, ◌+◌, ◌^◌, ◌==◌, Bool, true, false}
+use Rattle.std.specs.Prelude.{ℕ, ◌+◌, ◌^◌, ◌==◌, ◌&&◌, Bool, true, false}
 use Rattle.hv_event.specs.declared.event.CellId.{CellId}
 use Rattle.hv_event.specs.declared.event.CellId.TheVariants as component
 use Rattle.hv_event.specs.declared.event.ActorId.{ActorId}
@@ -12,7 +12,15 @@ pub data Cell : Type 0 where
 
 -- Two components are the same where their kinds and their numbers are.
 abbrev pub same_component : CellId → CellId → Bool
+same_component component.Dir component.Dir = true
+same_component component.Shelf component.Shelf = true
 same_component component.Files component.Files = true
+same_component (component.Space g) (component.Space k) = g == k
+same_component (component.Queue h) (component.Queue k) = h == k
+same_component (component.Vcpu v) (component.Vcpu k) = v == k
+same_component (component.Body g j) (component.Body k l) = (g == k) && (j == l)
+same_component (component.Area a) (component.Area k) = a == k
+same_component _ _ = false
 
 -- Two actors are the same where their kinds and their numbers are.
 abbrev pub same_actor : ActorId → ActorId → Bool

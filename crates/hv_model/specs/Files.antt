@@ -84,6 +84,11 @@ abbrev pub image_written : FileMap → Result (List ℕ) FileRefusal → List (L
 image_written m (Ok text) path = changed m (with_file m path (image_of text))
 image_written m (Err why) path = m
 
+-- A file that is loaded is handed over; where there is none, the reply says why.
+abbrev pub GivesFile : Result (List ℕ) FileRefusal → Reply → Carry → Type 0
+GivesFile (Ok bytes) r c = c.bytes ≡ Some bytes
+GivesFile (Err why) r c = (r ≡ reply.Load (Err (refusal_of why))) × (c.bytes ≡ None)
+
 -- The files agree to a step where the reply is the one that they give.
 abbrev pub FilesAgree : FileMap → Step → Reply → Carry → Type 0
 FilesAgree m (step.Ls s) r c = r ≡ reply.Ls (answered (list_folder m s.path))
@@ -96,6 +101,7 @@ FilesAgree m (step.Rm s) r c = r ≡ reply.Rm (done (without m s.path))
 FilesAgree m (step.Write s) r c = r ≡ reply.Write (done (with_file m s.path s.bytes))
 FilesAgree m (step.Asm s) r c =
     (answer : Result ℕ Refusal) × (r ≡ reply.Asm answer) × AnswersAssembly m (read_file m s.source) s.target answer
+FilesAgree m (step.Load s) r c = GivesFile (read_file m s.path) r c
 FilesAgree m _ r c = ⊥
 
 -- A step leaves the files changed where it makes, removes or writes something, and is not refused; the steps that have no

@@ -1,5 +1,6 @@
 -- Legal and complete histories.
-use Rattle.std.specs.Prelude.{◌≡◌, ℕ, ◌+◌, ◌<◌, ◌≤◌, ◌^◌, max, length, List, [], ◌++◌, map, ◌==◌, if◌then◌else◌, ◌∷◌}
+use Rattle.std.specs.Option.{option_map, option_map_or}
+use Rattle.std.specs.Prelude.{◌≡◌, ℕ, zero, suc, None, replicate, slice_get, ◌+◌, ◌<◌, ◌≤◌, ◌^◌, max, length, List, [], ◌++◌, map, ◌==◌, if◌then◌else◌, ◌∷◌}
 use Rattle.std.specs.List.{AllByRecursion, range_with_len}
 use Rattle.hv_text.specs.declared.limits.TheConstants.{GREATEST_STAMP}
 use Rattle.hv_machine.specs.Machine.{State, state_after}
@@ -13,7 +14,12 @@ use Rattle.hv_model.specs.Cell.{Cell, Component, Actor, is_actor, rank_of}
 use Rattle.hv_model.specs.Entry.{Entry}
 use Rattle.hv_text.specs.Lines.{script_lines}
 use Rattle.hv_words.specs.Words.{commands_of}
+use Rattle.hv_dir.specs.Directory.{no_guests}
+use Rattle.hv_kinds.specs.declared.state.State.TheVariants.{Reset}
+use Rattle.hv_space.specs.Space.{no_windows}
+use Rattle.hv_vcpu.specs.Vcpu.{VcpuValue, unknown}
 use Rattle.hv_model.specs.Files.{FileMap, load_files}
+use Rattle.hv_model.specs.Hart.{hart_at_start, HasMade}
 use Rattle.hv_model.specs.Terminal.{TerminalState, Scripts, IsAtBootEnd, IsAtEnd}
 use Rattle.hv_model.specs.Rules.{Value, machine}
 
@@ -38,10 +44,30 @@ abbrev pub terminal_at_start : Origin → ℕ → TerminalState
 terminal_at_start O t =
     record { count = 0; rests = 0; boot = boot_at_start O t; own = own_at_start O t; lines = lines_at_start O t }
 
--- At the start the files are the bundle's, and no actor has made anything.
+-- The orphan VCPU, which balances, begins Reset with its own plan; no other is there.
+abbrev pub orphan : VcpuValue
+orphan = record unknown { state = Reset; plan = record { start = 0; priority = 3; slice = 1 } }
+
+abbrev pub vcpu_at_start : (vcpu : ℕ) → VcpuValue
+vcpu_at_start zero = orphan
+vcpu_at_start (suc v) = unknown
+
+-- An area begins with zeros; one that isn't there has no bytes.
+abbrev pub area_at_start : Origin → (area : ℕ) → List ℕ
+area_at_start O area = option_map_or (λ size. replicate size 0) (option_map (λ named. named.1) (slice_get O.opening.areas area)) []
+
+-- At the start the files are the bundle's and the shelf has the devices that are handed in; there are no guests, and no
+-- actor has made anything.
 abbrev pub value_at_start : Origin → (x : Cell) → Value x
+value_at_start O (Component component.Dir) = no_guests
+value_at_start O (Component component.Shelf) = O.devices
 value_at_start O (Component component.Files) = load_files O.opening.files
-value_at_start O (Actor (Hart h)) = record { count = 0; turns = 0 }
+value_at_start O (Component (component.Space slot)) = no_windows
+value_at_start O (Component (component.Queue hart)) = []
+value_at_start O (Component (component.Vcpu vcpu)) = vcpu_at_start vcpu
+value_at_start O (Component (component.Body slot row)) = None
+value_at_start O (Component (component.Area area)) = area_at_start O area
+value_at_start O (Actor (Hart h)) = hart_at_start O.opening.harts O.opening.turns h
 value_at_start O (Actor (Terminal t)) = terminal_at_start O t
 
 -- At the start every stamp is 0.
@@ -94,10 +120,10 @@ module _ (O : Origin) where
   abbrev pub Legal : List Event → Type 0
   Legal H = (s : State (machine O)) × Leads H s
 
-  -- In a complete state every terminal is at its end, and every hart has made its turns.
+  -- In a complete state every terminal is at its end, and every hart has made its turns, with nothing pending or owed.
   pub record IsComplete (s : State (machine O)) : Type 0 where
     pub terminals : AllByRecursion (λ t. IsAtEnd (s (Actor (Terminal t))).value) terminals
-    pub harts : AllByRecursion (λ h. (s (Actor (Hart h))).value.turns ≡ O.opening.turns) (range_with_len 0 O.opening.harts)
+    pub harts : AllByRecursion (λ h. HasMade O.opening.turns (s (Actor (Hart h))).value) (range_with_len 0 O.opening.harts)
 
   -- A history is complete where it leads to a state in which nothing is left to do.
   abbrev pub Complete : List Event → Type 0

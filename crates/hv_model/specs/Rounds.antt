@@ -13,6 +13,7 @@ use Rattle.hv_model.specs.Cell.{Actor, is_actor, rank_of}
 use Rattle.hv_model.specs.Entry.{Entry}
 use Rattle.hv_model.specs.Terminal.{TerminalState, Scripts, next_in, IsAtBootEnd}
 use Rattle.hv_model.specs.Rules.{machine}
+use Rattle.hv_model.specs.Hart.{hart_has_ended}
 use Rattle.hv_model.specs.Legal.{first, start, own_at_start, booted, begun, Legal}
 
 -- Whether no command is next.
@@ -41,7 +42,7 @@ first_or (Some found) other = Some found
 module _ (O : Origin) where
   -- An actor has ended where its program asks for nothing more.
   abbrev pub has_ended : State (machine O) → ActorId → Bool
-  has_ended s (Hart h) = (s (Actor (Hart h))).value.turns == O.opening.turns
+  has_ended s (Hart h) = hart_has_ended O.opening.turns (s (Actor (Hart h))).value
   has_ended s (Terminal t) = terminal_has_ended (s (Actor (Terminal t))).value
 
   -- Whose turn it is: the first of those that are left in this round, or else the first of a new one.

@@ -68,7 +68,10 @@ complete = record {
       ),
     ),
   );
-  harts = (refl, (refl, tt));
+  harts = (
+    record { turns_are = refl; pending = refl; owed = refl },
+    (record { turns_are = refl; pending = refl; owed = refl }, tt),
+  );
 }
 
 pub returns-clause-legal : goal.returns-clause-legal
