@@ -15,6 +15,7 @@ use Rattle.hv_model.specs.Cell.{Cell, Component, Actor, same_cell, same_actor}
 use Rattle.hv_model.specs.Files.{FilesAgree, files_after}
 use Rattle.hv_model.specs.Terminal.{TerminalState, TerminalAgrees, terminal_after}
 use Rattle.hv_model.specs.Rules.{machine, components_of, IsAllowedAt}
+use Rattle.hv_rules.specs.Footprint.{components}
 use Rattle.hv_rounds.specs.declared.files.FileCell.{FileCell}
 use Rattle.hv_rounds.specs.declared.terminal.Terminal.{Terminal as TerminalCell}
 use Rattle.hv_rounds.specs.declared.board.Board.{Board}
@@ -45,30 +46,36 @@ none-of a (c ∷ cs) = none-of a cs
 
 -- an event touches no actor but its own
 touch-actor : (O : Origin) (e : Entry) (a : ActorId) → touches (machine O) (Actor a) e ≡ same_actor a e.event.actor
-touch-actor O e a = ap (λ b. same_actor a e.event.actor || b) (none-of a (components_of e.event.step)) ∙ or-false (same_actor a e.event.actor)
+touch-actor O e a = ap (λ b. same_actor a e.event.actor || b) (none-of a (components_of O.opening.harts e)) ∙ or-false (same_actor a e.event.actor)
+
+-- the components of an event if its step were this
+abbrev components_by : (harts : ℕ) → Entry → Step → List CellId
+components_by harts e st = components harts e.event.actor st e.event.reply e.carry
 
 -- whether a step touches the files
-abbrev pub touches_files : Step → Bool
-touches_files st = list_any (same_cell (Component component.Files)) (map Component (components_of st))
+abbrev touches_files : (harts : ℕ) → Entry → Step → Bool
+touches_files harts e st = list_any (same_cell (Component component.Files)) (map Component (components_by harts e st))
 
-touch-files : (O : Origin) (e : Entry) → touches (machine O) (Component component.Files) e ≡ touches_files e.event.step
+touch-files : (O : Origin) (e : Entry) → touches (machine O) (Component component.Files) e ≡ touches_files O.opening.harts e e.event.step
 touch-files O e = refl
 
 -- what a step does to the files, as one of two records
-pub data Part (old new : FileCell) (own : ℕ) (e : Entry) (st : Step) : Type 0 where
-  leaves : touches_files st ≡ false → components_of st ≡ [] → LeavesFiles old new own e → Part old new own e st
-  takes : touches_files st ≡ true → components_of st ≡ component.Files ∷ [] → TouchesFiles old new own e → Part old new own e st
+pub data Part (harts : ℕ) (old new : FileCell) (own : ℕ) (e : Entry) (st : Step) : Type 0 where
+  leaves : touches_files harts e st ≡ false → components_by harts e st ≡ [] → LeavesFiles old new own e → Part harts old new own e st
+  takes : touches_files harts e st ≡ true → components_by harts e st ≡ component.Files ∷ [] → TouchesFiles old new own e → Part harts old new own e st
 
-pub part-of : (old new : FileCell) (own : ℕ) (e : Entry) (st : Step) → FilesPart st old new own e → Part old new own e st
-part-of old new own e (step.Ls s) h = takes refl refl h
-part-of old new own e (step.Cat s) h = takes refl refl h
-part-of old new own e (step.Dts s) h = takes refl refl h
-part-of old new own e (step.Run s) h = takes refl refl h
-part-of old new own e (step.Mkdir s) h = takes refl refl h
-part-of old new own e (step.Rm s) h = takes refl refl h
-part-of old new own e (step.Write s) h = takes refl refl h
-part-of old new own e (step.Asm s) h = takes refl refl h
-part-of old new own e st h = leaves refl refl h
+pub part-of : (harts : ℕ) (old new : FileCell) (own : ℕ) (e : Entry) (st : Step) → FilesPart st old new own e → Part harts old new own e st
+part-of harts old new own e (step.Ls s) h = takes refl refl h
+part-of harts old new own e (step.Cat s) h = takes refl refl h
+part-of harts old new own e (step.Dts s) h = takes refl refl h
+part-of harts old new own e (step.Run s) h = takes refl refl h
+part-of harts old new own e (step.Mkdir s) h = takes refl refl h
+part-of harts old new own e (step.Rm s) h = takes refl refl h
+part-of harts old new own e (step.Write s) h = takes refl refl h
+part-of harts old new own e (step.Asm s) h = takes refl refl h
+part-of harts old new own e (step.Rest s) h = leaves refl refl h
+part-of harts old new own e (step.Bad s) h = leaves refl refl h
+part-of harts old new own e st h = absurd h
 
 module _ (O : Origin) (s : State (machine O)) (b b' : Board) (t : ℕ) (e : Entry) (d : TerminalCell) (below : t < 4)
     (holds : Holds O s b) (made : IsBoardStep b b' t e) where
@@ -90,8 +97,8 @@ module _ (O : Origin) (s : State (machine O)) (b b' : Board) (t : ℕ) (e : Entr
   own-stamp : (s (Actor (Terminal t))).stamp ≡ here.stamp
   own-stamp = holds.stamps t d below
 
-  part : Part b.files b'.files here.stamp e e.event.step
-  part = part-of b.files b'.files here.stamp e e.event.step step_is.files
+  part : Part O.opening.harts b.files b'.files here.stamp e e.event.step
+  part = part-of O.opening.harts b.files b'.files here.stamp e e.event.step step_is.files
 
   own-agrees : IsAllowedAt (Actor (Terminal t)) (s (Actor (Terminal t))).value e
   own-agrees = subst (λ (v : TerminalState). TerminalAgrees v e) (sym (holds.terminals t d below)) step_is.agrees
@@ -109,15 +116,15 @@ module _ (O : Origin) (s : State (machine O)) (b b' : Board) (t : ℕ) (e : Entr
         | leaves untouched none h ↦
             let agreed : AgreedBy (Terminal t) [] = (own-agrees, tt) in
             let stamped : Stamped (Terminal t) [] = let next = h.next in omega (arith, own-stamp, next) in
-            let all : AgreedBy e.event.actor (components_of e.event.step) = subst (λ a. AgreedBy a (components_of e.event.step)) (sym actor-is) (subst (AgreedBy (Terminal t)) (sym none) agreed) in
-            let stamp : Stamped e.event.actor (components_of e.event.step) = subst (λ a. Stamped a (components_of e.event.step)) (sym actor-is) (subst (Stamped (Terminal t)) (sym none) stamped) in
+            let all : AgreedBy e.event.actor (components_of O.opening.harts e) = subst (λ a. AgreedBy a (components_of O.opening.harts e)) (sym actor-is) (subst (AgreedBy (Terminal t)) (sym none) agreed) in
+            let stamp : Stamped e.event.actor (components_of O.opening.harts e) = subst (λ a. Stamped a (components_of O.opening.harts e)) (sym actor-is) (subst (Stamped (Terminal t)) (sym none) stamped) in
             record { agreed = all; stamped = stamp }
         | takes touched one h ↦
             let files : FilesAgree (s F).value e.event.step e.event.reply e.carry = subst (λ v. FilesAgree v e.event.step e.event.reply e.carry) (sym holds.files) h.agrees in
             let agreed : AgreedBy (Terminal t) (component.Files ∷ []) = (own-agrees, (files, tt)) in
             let stamped : Stamped (Terminal t) (component.Files ∷ []) = let next = h.next in let fs = holds.files_stamp in omega (arith, own-stamp, next, fs) in
-            let all : AgreedBy e.event.actor (components_of e.event.step) = subst (λ a. AgreedBy a (components_of e.event.step)) (sym actor-is) (subst (AgreedBy (Terminal t)) (sym one) agreed) in
-            let stamp : Stamped e.event.actor (components_of e.event.step) = subst (λ a. Stamped a (components_of e.event.step)) (sym actor-is) (subst (Stamped (Terminal t)) (sym one) stamped) in
+            let all : AgreedBy e.event.actor (components_of O.opening.harts e) = subst (λ a. AgreedBy a (components_of O.opening.harts e)) (sym actor-is) (subst (AgreedBy (Terminal t)) (sym one) agreed) in
+            let stamp : Stamped e.event.actor (components_of O.opening.harts e) = subst (λ a. Stamped a (components_of O.opening.harts e)) (sym actor-is) (subst (Stamped (Terminal t)) (sym one) stamped) in
             record { agreed = all; stamped = stamp }
       ]
 

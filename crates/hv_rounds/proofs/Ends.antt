@@ -17,6 +17,7 @@ use Rattle.hv_model.specs.Origin.{Origin, terminals}
 use Rattle.hv_model.specs.Cell.{Component, Actor, is_actor, same_actor}
 use Rattle.hv_model.specs.CellLaws.{same_actor-self}
 use Rattle.hv_model.specs.Terminal.{TerminalState, next_in, IsAtBootEnd, IsAtEnd}
+use Rattle.hv_model.specs.Hart.{HasMade, hart_at_start}
 use Rattle.hv_model.specs.Rules.{machine}
 use Rattle.hv_model.specs.Legal.{first, start, own_at_start, terminal_at_start, booted, begun, Leads, IsComplete}
 use Rattle.hv_model.specs.Legal.{IsSpent as IsSpentIn}
@@ -233,7 +234,9 @@ module _ (O : Origin) (boot : List Entry) (b : Board) (p : BootPart O boot b) wh
         λ t lt. subst IsAtEnd (sym (g.holds.terminals t d lt)) (at-end (value_of (at c t d)) (ended t d (omega arith) lt)) in
         record {
           terminals = all-four (λ t. IsAtEnd (state_after (machine O) (begun O boot) made (Actor (Terminal t))).value) (of 0 (omega arith)) (of 1 (omega arith)) (of 2 (omega arith)) (of 3 (omega arith));
-          harts = all-of (λ h. (state_after (machine O) (begun O boot) made (Actor (Hart h))).value.turns ≡ O.opening.turns) (λ h. ap (λ v. v.turns) (g.holds.harts h) ∙ sym turns) (range_with_len 0 O.opening.harts);
+          harts = all-of (λ h. HasMade O.opening.turns (state_after (machine O) (begun O boot) made (Actor (Hart h))).value) (λ h.
+          (let is : (state_after (machine O) (begun O boot) made (Actor (Hart h))).value ≡ hart_at_start O.opening.harts O.opening.turns h = g.holds.harts h in
+          subst (HasMade O.opening.turns) (sym is) (record { turns_are = sym turns; pending = refl; owed = refl }))) (range_with_len 0 O.opening.harts);
         }
 
     -- what the terminals have shown

@@ -118,7 +118,7 @@ held-here es e n is = inr (Any-push (λ x. x.event.stamp ≡ n) es e (sym is))
 
 files-held-next : (es : List Entry) (old new : FileCell) (own : ℕ) (e : Entry) → FilesPart e.event.step old new own e → IsHeld es old.stamp → IsHeld (es ++ e ∷ []) new.stamp
 files-held-next es old new own e part h =
-    elim (part-of old new own e e.event.step part) [
+    elim (part-of 0 old new own e e.event.step part) [
       | leaves untouched none l ↦ subst (λ (f : FileCell). IsHeld (es ++ e ∷ []) f.stamp) (sym l.same) (held-more es e old.stamp h)
       | takes touched one l ↦ held-here es e new.stamp l.stamp
     ]
@@ -126,7 +126,7 @@ files-held-next es old new own e part h =
 -- a step's stamp is above its terminal's
 pub event-rises : (files files' : FileCell) (x x' : TerminalCell) (e : Entry) → IsStep files files' x x' e → x.stamp < e.event.stamp
 event-rises files files' x x' e s =
-    elim (part-of files files' x.stamp e e.event.step s.files) [
+    elim (part-of 0 files files' x.stamp e e.event.step s.files) [
       | leaves untouched none h ↦ let next = h.next in omega arith
       | takes touched one h ↦ let next = h.next in omega arith
     ]

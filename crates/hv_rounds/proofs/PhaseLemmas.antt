@@ -63,7 +63,7 @@ stamp-of b t d lt = stamp-is b.terminals.items t d (let four = four-items b in o
 rises : (files files' : FileCell) (x x' : TerminalCell) (e : Entry) → IsStep files files' x x' e → x.stamp < x'.stamp
 rises files files' x x' e s =
     let stamp = s.stamp in
-    elim (part-of files files' x.stamp e e.event.step s.files) [
+    elim (part-of 0 files files' x.stamp e e.event.step s.files) [
       | leaves untouched none h ↦ let next = h.next in omega arith
       | takes touched one h ↦ let next = h.next in omega arith
     ]

@@ -1,5 +1,5 @@
 -- Whose turn it is, and what was made in turn.
-use Rattle.std.proofs.Common.{◌≡◌, ℕ, zero, suc, ◌-◌, ◌<◌, ◌≤◌, inl, inr, Bool, true, false, Option, Some, None, List, [], ◌∷◌, ◌++◌, map, refl, ap, sym, subst, ◌∙◌, arith, eq-eqb}
+use Rattle.std.proofs.Common.{◌≡◌, ℕ, zero, suc, ◌-◌, ◌<◌, ◌≤◌, inl, inr, Bool, true, false, ◌&&◌, Option, Some, None, List, [], ◌∷◌, ◌++◌, map, refl, ap, sym, subst, ◌∙◌, arith, eq-eqb}
 use Rattle.std.proofs.lemmas.Bool.{cases_lt}
 use Rattle.std.specs.List.{range_with_len}
 use Rattle.hv_machine.specs.Machine.{State, next_state, state_after}
@@ -8,6 +8,7 @@ use Rattle.hv_event.specs.declared.event.ActorId.TheVariants.{Hart, Terminal}
 use Rattle.hv_model.specs.declared.entry.Entry.{Entry}
 use Rattle.hv_model.specs.Origin.{Origin, terminals}
 use Rattle.hv_model.specs.Cell.{Actor}
+use Rattle.hv_model.specs.Hart.{hart_at_start, hart_has_ended}
 use Rattle.hv_model.specs.Rules.{machine}
 use Rattle.hv_model.specs.Rounds.{order_of, first_of, first_or, has_ended, terminal_has_ended, turn_of, TakesTurns}
 use Rattle.hv_rounds.specs.declared.terminal.Terminal.{Terminal as TerminalCell}
@@ -43,8 +44,9 @@ or-self (Some found) = refl
 module _ (O : Origin) (s : State (machine O)) (b : Board) (d : TerminalCell) (turns : O.opening.turns ≡ 0) (holds : Holds O s b) where
   hart-ended : (h : ℕ) → has_ended O s (Hart h) ≡ true
   hart-ended h =
-      let made : (s (Actor (Hart h))).value.turns ≡ 0 = ap (λ v. v.turns) (holds.harts h) in
-      eq-eqb (s (Actor (Hart h))).value.turns O.opening.turns (made ∙ sym turns)
+      let made : hart_has_ended O.opening.turns (hart_at_start O.opening.harts O.opening.turns h) ≡ true =
+      ap (λ (same : Bool). same && true) (eq-eqb 0 O.opening.turns (sym turns)) in
+      ap (hart_has_ended O.opening.turns) (holds.harts h) ∙ made
 
   skip-harts : (hs : List ℕ) (actors : List ActorId) → first_of (has_ended O s) (map Hart hs ++ actors) ≡ first_of (has_ended O s) actors
   skip-harts [] actors = refl

@@ -12,7 +12,7 @@ use Rattle.hv_words.specs.declared.command.Command.{Command}
 use Rattle.hv_words.specs.declared.command.Command.TheVariants as command
 use Rattle.hv_words.specs.declared.refusal.WordsRefusal.{WordsRefusal}
 use Rattle.hv_words.specs.declared.refusal.WordsRefusal.TheVariants as line
-use Rattle.hv_model.specs.declared.entry.Carry.{Carry}
+use Rattle.hv_rules.specs.Carry.{Carry}
 use Rattle.hv_model.specs.declared.entry.Entry.{Entry}
 use Rattle.hv_model.specs.Files.{FileMap, FilesAgree, AnswersSource, read_file}
 use Rattle.hv_model.specs.Terminal.{Begun, begun, step_of, IsFirstStep, IsNextStep}
@@ -30,25 +30,27 @@ source-showable (Ok bytes) (Err why) h = tt
 source-showable (Err why) (Ok given) h = absurd (cc h)
 source-showable (Err why) (Err other) h = tt
 
-files-showable : (m : FileMap) (s : Step) (r : Reply) (c : Carry) → FilesAgree m s r c → IsShowable r
-files-showable m (step.Run s) (reply.Bad r) c h = tt
-files-showable m (step.Run s) reply.Rest c h = tt
-files-showable m (step.Run s) (reply.Ls r) c h = tt
-files-showable m (step.Run s) (reply.Cat r) c h = tt
-files-showable m (step.Run s) (reply.Run r) c h = tt
-files-showable m (step.Run s) (reply.Mkdir r) c h = tt
-files-showable m (step.Run s) (reply.Rm r) c h = tt
-files-showable m (step.Run s) (reply.Write r) c h = tt
-files-showable m (step.Run s) (reply.Asm r) c h = tt
-files-showable m (step.Run s) r c h = absurd h
-files-showable m (step.Ls s) r c h = shown-as r _ h tt
-files-showable m (step.Cat s) r c h = shown-as r _ h tt
-files-showable m (step.Dts s) r c h = shown-as r (reply.Dts h.0) h.1 (source-showable (read_file m s.path) h.0 h.2)
-files-showable m (step.Mkdir s) r c h = shown-as r _ h tt
-files-showable m (step.Rm s) r c h = shown-as r _ h tt
-files-showable m (step.Write s) r c h = shown-as r _ h tt
-files-showable m (step.Asm s) r c h = shown-as r (reply.Asm h.0) h.1 tt
-files-showable m s r c h = absurd h
+files-showable : (old new : FileCell) (own : ℕ) (e : Entry) (s : Step) (r : Reply) (c : Carry) → FilesPart s old new own e → FilesAgree old.tree s r c → IsShowable r
+files-showable old new own e (step.Run s) (reply.Bad r) c p h = tt
+files-showable old new own e (step.Run s) reply.Rest c p h = tt
+files-showable old new own e (step.Run s) (reply.Ls r) c p h = tt
+files-showable old new own e (step.Run s) (reply.Cat r) c p h = tt
+files-showable old new own e (step.Run s) (reply.Run r) c p h = tt
+files-showable old new own e (step.Run s) (reply.Mkdir r) c p h = tt
+files-showable old new own e (step.Run s) (reply.Rm r) c p h = tt
+files-showable old new own e (step.Run s) (reply.Write r) c p h = tt
+files-showable old new own e (step.Run s) (reply.Asm r) c p h = tt
+files-showable old new own e (step.Run s) r c p h = absurd h
+files-showable old new own e (step.Ls s) r c p h = shown-as r _ h tt
+files-showable old new own e (step.Cat s) r c p h = shown-as r _ h tt
+files-showable old new own e (step.Dts s) r c p h = shown-as r (reply.Dts h.0) h.1 (source-showable (read_file old.tree s.path) h.0 h.2)
+files-showable old new own e (step.Mkdir s) r c p h = shown-as r _ h tt
+files-showable old new own e (step.Rm s) r c p h = shown-as r _ h tt
+files-showable old new own e (step.Write s) r c p h = shown-as r _ h tt
+files-showable old new own e (step.Asm s) r c p h = shown-as r (reply.Asm h.0) h.1 tt
+files-showable old new own e (step.Bad s) r c p h = absurd h
+files-showable old new own e (step.Rest s) r c p h = absurd h
+files-showable old new own e s r c p h = absurd p
 
 -- a line that is bad has no other step
 bad-showable : (b : Begun) (lines : ℕ) (said : Result Command WordsRefusal) (r : Reply) (c : Carry) (bad : List ℕ)
@@ -123,20 +125,20 @@ next-made zero (Some b) lines s r c h = first-made b lines h.0 s r c h.2
 
 -- of a step at a terminal or at the files
 step-showable : (s : Step) (old new : FileCell) (own : ℕ) (e : Entry) (rests : ℕ) (b : Option Begun) (lines : ℕ)
-    → FilesPart s old new own e → IsNextStep rests b lines s e.event.reply e.carry → IsShowable e.event.reply
-step-showable (step.Bad s) old new own e rests b lines part next = next-bad rests b lines e.event.reply e.carry s.line next
-step-showable (step.Rest s) old new own e rests b lines part next = next-rest rests b lines s e.event.reply e.carry next
-step-showable (step.Ls s) old new own e rests b lines part next = files-showable old.tree e.event.step e.event.reply e.carry part.agrees
-step-showable (step.Cat s) old new own e rests b lines part next = files-showable old.tree e.event.step e.event.reply e.carry part.agrees
-step-showable (step.Dts s) old new own e rests b lines part next = files-showable old.tree e.event.step e.event.reply e.carry part.agrees
-step-showable (step.Run s) old new own e rests b lines part next = files-showable old.tree e.event.step e.event.reply e.carry part.agrees
-step-showable (step.Mkdir s) old new own e rests b lines part next = files-showable old.tree e.event.step e.event.reply e.carry part.agrees
-step-showable (step.Rm s) old new own e rests b lines part next = files-showable old.tree e.event.step e.event.reply e.carry part.agrees
-step-showable (step.Write s) old new own e rests b lines part next = files-showable old.tree e.event.step e.event.reply e.carry part.agrees
-step-showable (step.Asm s) old new own e rests b lines part next = files-showable old.tree e.event.step e.event.reply e.carry part.agrees
-step-showable s old new own e rests b lines part next = absurd (false≢true (next-made rests b lines s e.event.reply e.carry next))
+    → FilesPart e.event.step old new own e → FilesPart s old new own e → IsNextStep rests b lines s e.event.reply e.carry → IsShowable e.event.reply
+step-showable (step.Bad s) old new own e rests b lines whole part next = next-bad rests b lines e.event.reply e.carry s.line next
+step-showable (step.Rest s) old new own e rests b lines whole part next = next-rest rests b lines s e.event.reply e.carry next
+step-showable (step.Ls s) old new own e rests b lines whole part next = files-showable old new own e e.event.step e.event.reply e.carry whole part.agrees
+step-showable (step.Cat s) old new own e rests b lines whole part next = files-showable old new own e e.event.step e.event.reply e.carry whole part.agrees
+step-showable (step.Dts s) old new own e rests b lines whole part next = files-showable old new own e e.event.step e.event.reply e.carry whole part.agrees
+step-showable (step.Run s) old new own e rests b lines whole part next = files-showable old new own e e.event.step e.event.reply e.carry whole part.agrees
+step-showable (step.Mkdir s) old new own e rests b lines whole part next = files-showable old new own e e.event.step e.event.reply e.carry whole part.agrees
+step-showable (step.Rm s) old new own e rests b lines whole part next = files-showable old new own e e.event.step e.event.reply e.carry whole part.agrees
+step-showable (step.Write s) old new own e rests b lines whole part next = files-showable old new own e e.event.step e.event.reply e.carry whole part.agrees
+step-showable (step.Asm s) old new own e rests b lines whole part next = files-showable old new own e e.event.step e.event.reply e.carry whole part.agrees
+step-showable s old new own e rests b lines whole part next = absurd (false≢true (next-made rests b lines s e.event.reply e.carry next))
 
 -- of a terminal's step
 pub is-showable : (old new : FileCell) (t t' : Terminal) (e : Entry) → IsStep old new t t' e → IsShowable e.event.reply
 is-showable old new t t' e s =
-    step-showable e.event.step old new t.stamp e t.rests (begun (value_of t)) t.lines s.files s.agrees.step
+    step-showable e.event.step old new t.stamp e t.rests (begun (value_of t)) t.lines s.files s.files s.agrees.step

@@ -16,8 +16,8 @@ use Rattle.hv_refusal.specs.declared.refusal.Refusal.{Refusal}
 use Rattle.hv_refusal.specs.declared.refusal.Refusal.TheVariants as refusal
 use Rattle.hv_files.specs.declared.refusal.FileRefusal.{FileRefusal}
 use Rattle.hv_model.specs.declared.entry.Entry.{Entry}
-use Rattle.hv_model.specs.declared.entry.Carry.{Carry}
-use Rattle.hv_model.specs.Entry.{handed_over, nothing}
+use Rattle.hv_rules.specs.Carry.{Carry, nothing}
+use Rattle.hv_rules.specs.Handed.{handed_over}
 use Rattle.hv_model.specs.Terminal.{TerminalState, Begun, begun, IsFirstStep, IsNextStep, TerminalReplies, terminal_after, line_begun, step_made, rest_count, number_or_one, scripts_of, RunAnswers}
 use Rattle.hv_model.specs.Files.{FindsScript, answered}
 use Rattle.hv_fpart.specs.Part.{IsFilesStep}

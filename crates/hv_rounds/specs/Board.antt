@@ -11,6 +11,7 @@ use Rattle.hv_model.specs.declared.entry.Entry.{Entry}
 use Rattle.hv_model.specs.Origin.{Origin}
 use Rattle.hv_model.specs.Cell.{Component, Actor}
 use Rattle.hv_model.specs.Terminal.{TerminalState, terminal_after}
+use Rattle.hv_model.specs.Hart.{hart_at_start}
 use Rattle.hv_model.specs.Rules.{machine}
 use Rattle.hv_model.specs.Legal.{terminal_at_start}
 use Rattle.hv_model.specs.Rounds.{terminal_has_ended}
@@ -37,7 +38,7 @@ pub record Holds (O : Origin) (s : State (machine O)) (b : Board) : Type 0 where
   pub terminals : (t : ℕ) (d : TerminalCell) → t < 4 → (s (Actor (Terminal t))).value ≡ value_of (at b t d)
   pub stamps : (t : ℕ) (d : TerminalCell) → t < 4 → (s (Actor (Terminal t))).stamp ≡ (at b t d).stamp
   pub numbers : (t : ℕ) (d : TerminalCell) → t < 4 → (at b t d).number ≡ t
-  pub harts : (h : ℕ) → (s (Actor (Hart h))).value ≡ record { count = 0; turns = 0 }
+  pub harts : (h : ℕ) → (s (Actor (Hart h))).value ≡ hart_at_start O.opening.harts O.opening.turns h
 
 -- the events of a terminal
 abbrev pub own_events : ℕ → List Entry → List Event

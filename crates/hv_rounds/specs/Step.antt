@@ -2,7 +2,6 @@
 use Rattle.std.specs.Prelude.{◌≡◌, ℕ, ◌+◌, ◌^◌, ◌++◌, max, Option, Some, Result, Ok, Err, List, [], ◌∷◌}
 use Rattle.hv_text.specs.declared.limits.TheConstants.{GREATEST_STAMP}
 use Rattle.hv_event.specs.declared.event.ActorId.TheVariants as actor
-use Rattle.hv_event.specs.declared.event.CellId.{CellId}
 use Rattle.hv_step.specs.declared.step.Step.{Step}
 use Rattle.hv_step.specs.declared.step.Step.TheVariants as step
 use Rattle.hv_answer.specs.declared.reply.Reply.{Reply}
@@ -10,8 +9,8 @@ use Rattle.hv_answer.specs.declared.reply.Reply.TheVariants as reply
 use Rattle.hv_dtree.specs.declared.node.Node.{Node}
 use Rattle.hv_dts.specs.Reading.{IsSourceOf}
 use Rattle.hv_model.specs.declared.entry.Entry.{Entry}
+use Rattle.hv_rules.specs.Carry.{nothing}
 use Rattle.hv_model.specs.Files.{FilesAgree, files_after}
-use Rattle.hv_model.specs.Rules.{components_of}
 use Rattle.hv_refusal.specs.declared.refusal.Refusal.{Refusal}
 use Rattle.hv_refusal.specs.declared.refusal.Refusal.TheVariants as refusal
 use Rattle.hv_words.specs.declared.command.Command.{Command}
@@ -37,14 +36,19 @@ pub record LeavesFiles (old new : FileCell) (own : ℕ) (e : Entry) : Type 0 whe
   pub same : new ≡ old
   pub next : e.event.stamp ≡ own + 1
 
--- what a step does to the files by the components that it touches, which are the files or none
-abbrev pub FilesAmong : List CellId → FileCell → FileCell → ℕ → Entry → Type 0
-FilesAmong [] old new own e = LeavesFiles old new own e
-FilesAmong (c ∷ cs) old new own e = TouchesFiles old new own e
-
--- what a step does to the files
+-- what a step of a terminal does to the files; terminals make no other steps yet
 abbrev pub FilesPart : Step → FileCell → FileCell → ℕ → Entry → Type 0
-FilesPart st old new own e = FilesAmong (components_of st) old new own e
+FilesPart (step.Bad s) old new own e = LeavesFiles old new own e
+FilesPart (step.Rest s) old new own e = LeavesFiles old new own e
+FilesPart (step.Ls s) old new own e = TouchesFiles old new own e
+FilesPart (step.Cat s) old new own e = TouchesFiles old new own e
+FilesPart (step.Dts s) old new own e = TouchesFiles old new own e
+FilesPart (step.Run s) old new own e = TouchesFiles old new own e
+FilesPart (step.Mkdir s) old new own e = TouchesFiles old new own e
+FilesPart (step.Rm s) old new own e = TouchesFiles old new own e
+FilesPart (step.Write s) old new own e = TouchesFiles old new own e
+FilesPart (step.Asm s) old new own e = TouchesFiles old new own e
+FilesPart s old new own e = ⊥
 
 -- an entry is the terminal's next step, and the terminal and the files are as it leaves them
 pub record IsStep (old new : FileCell) (t t' : Terminal) (e : Entry) : Type 0 where
@@ -60,7 +64,7 @@ abbrev pub Makes : ℕ → ℕ → ℕ → Step → Reply → Option ℕ → Ent
 Makes number index stamp step reply lines e =
     e ≡ record {
       event = record { actor = actor.Terminal number; index = index; stamp = stamp; step = step; reply = reply };
-      carry = record { lines = lines };
+      carry = record nothing { lines = lines };
     }
 
 -- the terminal t has begun its next command, whose line this is, and is then t'

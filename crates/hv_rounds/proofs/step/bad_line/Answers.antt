@@ -1,6 +1,6 @@
 use Rattle.std.proofs.Common.{◌+◌, refl, ap, sym, subst, ◌∙◌, arith}
 use Rattle.hv_model.specs.declared.entry.Entry.{Entry}
-use Rattle.hv_model.specs.Entry.{nothing}
+use Rattle.hv_rules.specs.Carry.{nothing}
 use Rattle.hv_rounds.specs.Step.{IsStep}
 use Rattle.hv_rounds.proofs.Steps.{first-step, begun_of, bad-said}
 use Rattle.hv_rounds.proofs.step.bad_line.Goals as goal

@@ -1,6 +1,6 @@
 use Rattle.std.proofs.Common.{◌+◌, Ok, refl, ap, sym, subst, ◌∙◌}
 use Rattle.hv_model.specs.declared.entry.Entry.{Entry}
-use Rattle.hv_model.specs.Entry.{nothing}
+use Rattle.hv_rules.specs.Carry.{nothing}
 use Rattle.hv_rounds.specs.Cells.{value_of}
 use Rattle.hv_rounds.specs.Step.{IsStep}
 use Rattle.hv_rounds.proofs.Steps.{first-step, begun_of, files-replies, files-hand-nothing, files-begin, files-touch}
