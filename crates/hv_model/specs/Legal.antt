@@ -15,6 +15,7 @@ use Rattle.hv_model.specs.Entry.{Entry}
 use Rattle.hv_text.specs.Lines.{script_lines}
 use Rattle.hv_words.specs.Words.{commands_of}
 use Rattle.hv_dir.specs.Directory.{no_guests}
+use Rattle.hv_emu.specs.Device.{DevState}
 use Rattle.hv_kinds.specs.declared.state.State.TheVariants.{Reset}
 use Rattle.hv_space.specs.Space.{no_windows}
 use Rattle.hv_vcpu.specs.Vcpu.{VcpuValue, unknown}
@@ -136,16 +137,20 @@ module _ (O : Origin) where
     pub due : IsAtEnd (s (Actor (Terminal terminal))).value → ⊥
     pub found : max (s (Actor (Terminal terminal))).stamp (s (Component component.Files)).stamp ≡ GREATEST_STAMP
 
-  -- A run that was stopped: its history leads to a state that has these files, and in which a step finds the greatest stamp.
-  pub record IsStoppedRun (H : List Event) (files : FileMap) : Type 0 where
+  -- A run that was stopped: its history leads to a state that has these files and devices on its shelf, and in which a step
+  -- finds the greatest stamp.
+  pub record IsStoppedRun (H : List Event) (files : FileMap) (devices : List DevState) : Type 0 where
     pub state : State (machine O)
     pub legal : Leads H state
     pub spent : IsSpent state
     pub final : (state (Component component.Files)).value ≡ files
+    pub shelf : (state (Component component.Shelf)).value ≡ devices
 
-  -- A run that was finished: its history leads to a state that has these files, and in which nothing is left to do.
-  pub record IsFinishedRun (H : List Event) (files : FileMap) : Type 0 where
+  -- A run that was finished: its history leads to a state that has these files and devices on its shelf, and in which nothing
+  -- is left to do.
+  pub record IsFinishedRun (H : List Event) (files : FileMap) (devices : List DevState) : Type 0 where
     pub state : State (machine O)
     pub legal : Leads H state
     pub complete : IsComplete state
     pub final : (state (Component component.Files)).value ≡ files
+    pub shelf : (state (Component component.Shelf)).value ≡ devices

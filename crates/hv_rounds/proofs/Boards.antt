@@ -139,6 +139,15 @@ module _ (O : Origin) (s : State (machine O)) (b b' : Board) (t : ℕ) (e : Entr
             (ap (λ k. k.value) changed ∙ ap (λ v. files_after v e.event.step e.event.reply) holds.files ∙ sym h.after, ap (λ k. k.stamp) changed ∙ sym h.stamp)
       ]
 
+  abbrev S : Cell
+  S = Component component.Shelf
+
+  abbrev AtShelf : List CellId → Bool
+  AtShelf cs = list_any (same_cell (Component component.Shelf)) (map Component cs)
+
+  shelf-touched : touches m S e ≡ false
+  shelf-touched = elim part [ leaves untouched none h ↦ ap AtShelf none | takes touched one h ↦ ap AtShelf one ]
+
   own-touched : touches m (Actor (Terminal t)) e ≡ true
   own-touched = touch-actor O e (Terminal t) ∙ ap (same_actor (Terminal t)) actor-is ∙ eq-eqb t t refl
 
@@ -180,5 +189,6 @@ module _ (O : Origin) (s : State (machine O)) (b b' : Board) (t : ℕ) (e : Entr
           | true ↦ λ same. let is : u ≡ t = eqb-is u t same in subst (λ (v : ℕ). (at b' v x).number ≡ v) (sym is) ((made.step x).number ∙ holds.numbers t x below)
           | false ↦ λ apart. ap (λ (c : TerminalCell). c.number) (made.others u x (eqb-apart u t apart)) ∙ holds.numbers u x lt
         ] refl;
+    shelf = ap (λ k. k.value) (next-untouched m s e S shelf-touched) ∙ holds.shelf;
     harts = λ h. ap (λ k. k.value) (next-untouched m s e (Actor (Hart h)) (hart-touched h)) ∙ holds.harts h;
   }

@@ -188,7 +188,7 @@ module _ (O : Origin) (boot : List Entry) (b : Board) (p : BootPart O boot b) wh
       let leads = boot-leads O boot merged.all parts merged.merged (subst Range (sym same) p.goes.in_range) boot-within (λ end. not_end d (subst IsAtBootEnd (boot-value d) end)) in
       let Led : List Event → Type 0 = λ H. Leads O H (booted O boot) in
       record {
-        run = record { state = booted O boot; legal = subst Led merged.events leads; spent = spent-in O (booted O boot) b n p.goes.holds found; final = p.goes.holds.files ∙ ap (λ f. f.tree) (sym files) ∙ sym c.files };
+        run = record { state = booted O boot; legal = subst Led merged.events leads; spent = spent-in O (booted O boot) b n p.goes.holds found; final = p.goes.holds.files ∙ ap (λ f. f.tree) (sym files) ∙ sym c.files; shelf = p.goes.holds.shelf };
         last = found.last;
         held = held-in-merged O (boot ++ []) o.history.items n merged (subst Made (sym same) (found-made O (start O) [] boot b n p.goes found));
       }
@@ -221,6 +221,7 @@ module _ (O : Origin) (boot : List Entry) (b : Board) (p : BootPart O boot b) wh
             legal = both-lead o.history.items merged;
             spent = spent-in O (state_after (machine O) (begun O boot) made) c n g.holds found;
             final = g.holds.files ∙ ap (λ f. f.tree) (sym files) ∙ sym k.files;
+            shelf = g.holds.shelf;
           };
           last = found.last;
           held = held-in-merged O (boot ++ made) o.history.items n merged (found-made O (begun O boot) boot made c n g found);
@@ -235,8 +236,8 @@ module _ (O : Origin) (boot : List Entry) (b : Board) (p : BootPart O boot b) wh
         record {
           terminals = all-four (λ t. IsAtEnd (state_after (machine O) (begun O boot) made (Actor (Terminal t))).value) (of 0 (omega arith)) (of 1 (omega arith)) (of 2 (omega arith)) (of 3 (omega arith));
           harts = all-of (λ h. HasMade O.opening.turns (state_after (machine O) (begun O boot) made (Actor (Hart h))).value) (λ h.
-          (let is : (state_after (machine O) (begun O boot) made (Actor (Hart h))).value ≡ hart_at_start O.opening.harts O.opening.turns h = g.holds.harts h in
-          subst (HasMade O.opening.turns) (sym is) (record { turns_are = sym turns; pending = refl; owed = refl }))) (range_with_len 0 O.opening.harts);
+              (let is : (state_after (machine O) (begun O boot) made (Actor (Hart h))).value ≡ hart_at_start O.opening.harts O.opening.turns h = g.holds.harts h in
+              subst (HasMade O.opening.turns) (sym is) (record { turns_are = sym turns; pending = refl; owed = refl }))) (range_with_len 0 O.opening.harts);
         }
 
     -- what the terminals have shown
@@ -256,6 +257,7 @@ module _ (O : Origin) (boot : List Entry) (b : Board) (p : BootPart O boot b) wh
             legal = both-lead o.history.items merged;
             complete = complete turns ended;
             final = g.holds.files ∙ sym k.files;
+            shelf = g.holds.shelf;
           };
           rounds = record {
             boot = boot;

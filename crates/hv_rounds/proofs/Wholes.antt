@@ -50,6 +50,7 @@ opened-board O b x0 x1 x2 x3 items tree stamp v0 n0 v1 n1 v2 n2 v3 n3 =
           terminals = λ t d lt. sym ((all t lt).value d);
           stamps = λ t d lt. sym ((all t lt).new d).stamp;
           numbers = λ t d lt. ((all t lt).new d).number_is;
+          shelf = refl;
           harts = λ h. refl;
         };
         shown = λ t d lt. record { value = (all t lt).value d; shown = ((all t lt).new d).shown; log = tt; upto = tt };
@@ -106,6 +107,7 @@ begun-goes O boot b b' p together =
         terminals = λ t d lt. holds.terminals t d lt ∙ sym (together.each t d lt).value;
         stamps = λ t d lt. holds.stamps 0 d (omega arith) ∙ sym (together.each t d lt).stamp_is;
         numbers = λ t d lt. (together.each t d lt).number ∙ holds.numbers t d lt;
+        shelf = holds.shelf;
         harts = holds.harts;
       };
       shown = λ t d lt.

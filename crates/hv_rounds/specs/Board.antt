@@ -38,6 +38,7 @@ pub record Holds (O : Origin) (s : State (machine O)) (b : Board) : Type 0 where
   pub terminals : (t : ℕ) (d : TerminalCell) → t < 4 → (s (Actor (Terminal t))).value ≡ value_of (at b t d)
   pub stamps : (t : ℕ) (d : TerminalCell) → t < 4 → (s (Actor (Terminal t))).stamp ≡ (at b t d).stamp
   pub numbers : (t : ℕ) (d : TerminalCell) → t < 4 → (at b t d).number ≡ t
+  pub shelf : (s (Component component.Shelf)).value ≡ O.devices
   pub harts : (h : ℕ) → (s (Actor (Hart h))).value ≡ hart_at_start O.opening.harts O.opening.turns h
 
 -- the events of a terminal

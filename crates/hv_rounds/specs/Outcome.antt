@@ -14,13 +14,13 @@ LinesFit opening = (t : ℕ) → t < TERMINALS → lines_among opening.scripts t
 
 -- a run that came to its end: its history is finished and made in rounds, and these are its files and transcripts
 pub record IsFinished (O : Origin) (o : Outcome) : Type 0 where
-  pub run : IsFinishedRun O o.history.items o.files
+  pub run : IsFinishedRun O o.history.items o.files O.devices
   pub rounds : IsRounds O o.history.items
   pub shown : AreTranscripts O o.history.items terminals o.transcripts
 
 -- a run that a step stopped whose greatest stamp was the last one: its history is legal and has an event of that stamp
 pub record IsSpent (O : Origin) (o : Outcome) (stamp : ℕ) : Type 0 where
-  pub run : IsStoppedRun O o.history.items o.files
+  pub run : IsStoppedRun O o.history.items o.files O.devices
   pub last : stamp ≡ GREATEST_STAMP
   pub held : Any (λ e. e.stamp ≡ stamp) o.history.items
 

@@ -9,6 +9,6 @@ use Rattle.xvsim.specs.declared.run.Made.TheVariants as made
 -- a run from this opening, with these parts on its shelf: finished, with its report, or stopped
 abbrev pub IsMadeFrom : {E : Type 0} → (state : E → DevState) → (parts : List E) → Opening → Made E → Type 0
 IsMadeFrom state parts o (made.Finished run report) =
-    (run.opening ≡ o) × (run.shelf.items ≡ parts) × IsFinished (map state parts) run × IsReportOf (map state parts) run report
+    (run.opening ≡ o) × (run.shelf.items ≡ parts) × IsFinished state (map state parts) run × IsReportOf (map state parts) run report
 IsMadeFrom state parts o (made.Stopped run stamp) =
-    (run.opening ≡ o) × (run.shelf.items ≡ parts) × IsStoppedAt (map state parts) stamp run
+    (run.opening ≡ o) × (run.shelf.items ≡ parts) × IsStoppedAt state (map state parts) stamp run

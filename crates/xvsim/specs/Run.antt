@@ -1,5 +1,5 @@
 -- What a call keeps of its run, and what it writes.
-use Rattle.std.specs.Prelude.{◌≡◌, ℕ, List, Option, Bool, true, false, IsTrue, IsSomeAnd, Any}
+use Rattle.std.specs.Prelude.{◌≡◌, ℕ, List, Option, Bool, true, false, IsTrue, IsSomeAnd, Any, map}
 use Rattle.std.specs.Io.KnownBytes.{Appends, IsAtEnd}
 use Rattle.hv_text.specs.declared.limits.TheConstants.{GREATEST_STAMP}
 use Rattle.hv_emu.specs.Device.{DevState}
@@ -21,14 +21,14 @@ pub record IsRunOf {E : Type 0} (told left : Option (List ℕ)) (ended : Bool) (
   pub nothing_left : IsAtEnd left
   pub opening : GaveBytes told (λ bytes. IsOpening bytes run.opening)
 
--- the history is a finished run in rounds that began with these devices, and these are the files at its end
-pub record IsFinished {E : Type 0} (devices : List DevState) (run : KeptRunOf E) : Type 0 where
-  pub legal : IsFinishedRun (origin_of run.opening devices) run.history.items run.state.files
+-- the history is a finished run in rounds that began with these devices, and these are the files and the devices at its end
+pub record IsFinished {E : Type 0} (state : E → DevState) (devices : List DevState) (run : KeptRunOf E) : Type 0 where
+  pub legal : IsFinishedRun (origin_of run.opening devices) run.history.items run.state.files (map state run.shelf.items)
   pub rounds : IsRounds (origin_of run.opening devices) run.history.items
 
 -- the history is a run with these devices that was stopped, and one of its events has the stamp that stopped it, the greatest one
-pub record IsStoppedAt {E : Type 0} (devices : List DevState) (stamp : ℕ) (run : KeptRunOf E) : Type 0 where
-  pub legal : IsStoppedRun (origin_of run.opening devices) run.history.items run.state.files
+pub record IsStoppedAt {E : Type 0} (state : E → DevState) (devices : List DevState) (stamp : ℕ) (run : KeptRunOf E) : Type 0 where
+  pub legal : IsStoppedRun (origin_of run.opening devices) run.history.items run.state.files (map state run.shelf.items)
   pub greatest : stamp ≡ GREATEST_STAMP
   pub held : Any (λ e. e.stamp ≡ stamp) run.history.items
 
@@ -62,8 +62,8 @@ has_run (status.StampsSpent stamp) = true
 has_run _ = false
 
 -- what is kept after each answer: a finished run, a stopped one, or what was kept before
-abbrev pub KeepsRun : {E : Type 0} → List DevState → Status → KeptOf E → KeptOf E → Type 0
-KeepsRun devices status.Done old new = IsSomeAnd new.run (IsFinished devices)
-KeepsRun devices status.WriteFault old new = IsSomeAnd new.run (IsFinished devices)
-KeepsRun devices (status.StampsSpent stamp) old new = IsSomeAnd new.run (IsStoppedAt devices stamp)
-KeepsRun devices _ old new = new ≡ old
+abbrev pub KeepsRun : {E : Type 0} → (state : E → DevState) → List DevState → Status → KeptOf E → KeptOf E → Type 0
+KeepsRun state devices status.Done old new = IsSomeAnd new.run (IsFinished state devices)
+KeepsRun state devices status.WriteFault old new = IsSomeAnd new.run (IsFinished state devices)
+KeepsRun state devices (status.StampsSpent stamp) old new = IsSomeAnd new.run (IsStoppedAt state devices stamp)
+KeepsRun state devices _ old new = new ≡ old

@@ -29,7 +29,7 @@ fn run_bundle<S: Source, K: Sink, E: Emulator>(
 ) -> Status
     ensures input { IsTrue (has_run result) → IsSomeAnd kept.new.run
         (IsRunOf (S.left source.old) (S.left source.new) (S.ended source.new)) }
-    ensures keeps { KeepsRun (map E.state parts.items) result kept.old kept.new }
+    ensures keeps { KeepsRun E.state (map E.state parts.items) result kept.old kept.new }
     ensures shelf { IsTrue (has_run result)
         → IsSomeAnd kept.new.run (λ run. run.shelf.items ≡ parts.items) }
     ensures report { result ≡ Status.Done → IsSomeAnd kept.new.run
@@ -121,7 +121,7 @@ pub fn xvsim<S: Source, K: Sink, E: Emulator>(
 
     // A run that is done is finished, in rounds; one that was stopped is kept too, and else nothing changes.
     ensures keeps { AreRunWords (map string_bytes words.now)
-        → KeepsRun (map E.state parts.items) result kept.old kept.new }
+        → KeepsRun E.state (map E.state parts.items) result kept.old kept.new }
     // Since no guest can be made yet, the emulators are all left, in their order.
     ensures shelf { AreRunWords (map string_bytes words.now) → IsTrue (has_run result)
         → IsSomeAnd kept.new.run (λ run. run.shelf.items ≡ parts.items) }
