@@ -1,2 +1,6 @@
-pub mod Sources
+mod Sources
 pub mod Unique
+mod Scripts
+mod Boots
+mod Turns
+pub mod Rounds

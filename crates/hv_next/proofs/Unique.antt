@@ -234,6 +234,13 @@ module _ (O : Origin) (s : State (machine O)) (t : ℕ) where
   parts : (e : Entry) → e.event.actor ≡ Terminal t → e ≡ made (Terminal t) e.event.index e.event.stamp e.event.step e.event.reply e.carry
   parts e is = ap (λ (a : ActorId). made a e.event.index e.event.stamp e.event.step e.event.reply e.carry) is
 
+  pub makes-step : (e : Entry) → e.event.actor ≡ Terminal t → MayHappen (machine O) s e
+      → IsNextStep terminal.rests (begun terminal) terminal.lines e.event.step e.event.reply e.carry
+  makes-step e is may =
+      let Happens : Entry → Type 0 = MayHappen (machine O) s in
+      let it : May e.event.index e.event.stamp e.event.step e.event.reply e.carry = subst Happens (parts e is) may in
+      it.agreed.0.step
+
   pub next-unique : (e f : Entry) → e.event.actor ≡ Terminal t → f.event.actor ≡ Terminal t → MayHappen (machine O) s e → MayHappen (machine O) s f → e ≡ f
   next-unique e f p q a b =
       let Happens : Entry → Type 0 = MayHappen (machine O) s in

@@ -4,4 +4,4 @@
 
 mod laws;
 
-pub use laws::a_terminal_has_one_next_event;
+pub use laws::{a_run_in_rounds_has_one_history, a_terminal_has_one_next_event};
