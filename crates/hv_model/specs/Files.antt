@@ -105,7 +105,7 @@ FilesAgree m (step.Load s) r c = GivesFile (read_file m s.path) r c
 FilesAgree m _ r c = ⊥
 
 -- A step leaves the files changed where it makes, removes or writes something, and is not refused; the steps that have no
--- row don't touch the files.
+-- row leave them as they are.
 abbrev pub files_after : FileMap → Step → Reply → FileMap
 files_after m (step.Mkdir s) r = changed m (made_folder m s.path)
 files_after m (step.Rm s) r = changed m (without m s.path)

@@ -49,7 +49,7 @@ pub data Row : Type 0 where
   free : Row
   runs : Current → Row
 
--- One that runs a VCPU whose access is pending waits for it.
+-- One that runs a VCPU whose access is pending waits for it; an access is pending of no other.
 abbrev pub waits_for : Option Current → Pending → Generation → Row
 waits_for None pending generation = free
 waits_for (Some current) pending generation = waits current.vcpu pending generation
@@ -201,7 +201,7 @@ fetched hart generation outcome.Access c = record (with_used hart) { pending = p
 fetched hart generation outcome.Wait c = turned (without_vcpu hart)
 fetched hart generation _ c = turned (with_used hart)
 
--- A fault of an instruction uses the slice as its fetch would have; one of an access is the end of that.
+-- A fault of an instruction uses the slice as its fetch would have; a fault of a load or store is the end of the access.
 abbrev pub faulted : HartState → AccessKind → HartState
 faulted hart access.Execute = turned (with_used hart)
 faulted hart _ = turned (without_pending hart)

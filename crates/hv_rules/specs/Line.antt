@@ -1,5 +1,5 @@
 -- A line of a terminal: which steps it has, where it is among them, and where a reply leaves it.
-use Rattle.std.specs.Prelude.{ℕ, zero, suc, ◌+◌, Bool, true, false, not, ◌&&◌, if◌then◌else◌, Option, None, Some, Ok, List, [], ◌∷◌, ◌++◌, map, slice_get}
+use Rattle.std.specs.Prelude.{ℕ, zero, suc, ◌+◌, Bool, true, false, not, ◌&&◌, if◌then◌else◌, Option, None, Some, Ok, List, [], ◌∷◌, ◌++◌, length, map, slice_get}
 use Rattle.hv_answer.specs.declared.reply.Reply.{Reply}
 use Rattle.hv_answer.specs.declared.reply.Reply.TheVariants as reply
 use Rattle.hv_kinds.specs.declared.generation.Generation.{Generation}
@@ -8,13 +8,15 @@ use Rattle.hv_kinds.specs.declared.stage.Stage.TheVariants.{Making, Made, Ending
 use Rattle.hv_region.specs.declared.plan.Form.{Form}
 use Rattle.hv_region.specs.declared.plan.Form.TheVariants.{Device, Alias}
 use Rattle.hv_region.specs.declared.plan.RegionPlan.{RegionPlan}
+use Rattle.hv_refusal.specs.declared.refusal.Refusal.{Refusal}
+use Rattle.hv_region.specs.declared.plan.GuestPlan.{GuestPlan}
 use Rattle.hv_step.specs.declared.step.ByGuest.{ByGuest}
 use Rattle.hv_step.specs.declared.step.Step.{Step}
 use Rattle.hv_step.specs.declared.step.Step.TheVariants as step
 use Rattle.hv_text.specs.declared.limits.TheConstants.{VCPUS}
 use Rattle.hv_rules.specs.Carry.{Carry}
 use Rattle.hv_rules.specs.Owed.{vcpu_of}
-use Rattle.hv_rules.specs.Refused.{is_refused, is_refused_by_directory}
+use Rattle.hv_rules.specs.Refused.{refusal_of, directory_refusal_of}
 
 -- What is asked of each VCPU of a guest.
 pub data Change : Type 0 where
@@ -24,10 +26,10 @@ pub data Change : Type 0 where
   halt : Change
   reset : Change
 
--- What a line asks for: one step, rests, a look at each VCPU of the board, the life or the end of a guest, or a change
+-- What a line asks for: one step, which shows the generation that the directory gives where it is by guest, rests, a look at each VCPU of the board, the life or the end of a guest, or a change
 -- of each of its VCPUs.
 pub data Asked : Type 0 where
-  once : Step → Asked
+  once : (Option Generation → Step) → Asked
   rests : (count : ℕ) → Asked
   looks : Asked
   create : (name : List ℕ) → Asked
@@ -36,7 +38,7 @@ pub data Asked : Type 0 where
 
 -- One step of a line, with the number of its region's row or of its VCPU where it has one.
 pub data Ask : Type 0 where
-  only : Step → Ask
+  only : (Option Generation → Step) → Ask
   rest : Ask
   look : (vcpu : ℕ) → Ask
   claim : Ask
@@ -103,9 +105,10 @@ steps_of (each_vcpu asked name) vcpus regions = each (change asked) vcpus
 pub data Place : Type 0 where
   -- on its way: the steps made, the last one first, and those still to make
   on : (made todo : List Ask) → Place
-  -- on its way back: the steps still to undo, the last one first
-  back : (made : List Ask) → Place
-  over : Place
+  -- on its way back, for a refusal: the steps still to undo, the last one first
+  back : (why : Refusal) → (made : List Ask) → Place
+  -- ended by a refusal
+  over : (why : Refusal) → Place
 
 -- A line: what it asks for, the regions of its guest's plan, slot and birth of the guest that it made or ends, and
 -- where it is.
@@ -124,6 +127,18 @@ begun asked vcpus regions = record {
   place = on [] (steps_of asked vcpus regions);
 }
 
+-- A line of a guest by its plan; where a name has no good plan, a change of each VCPU has the step of one, which the
+-- directory refuses.
+abbrev pub begun_for : Asked → Option GuestPlan → LineState
+begun_for asked None = begun asked 1 []
+begun_for asked (Some plan) = begun asked (length plan.vcpus.items) plan.regions.items
+
+-- Why a line ends refused, if it does: for the refusal that ended it or turned it back.
+abbrev pub why_refused : Place → Option Refusal
+why_refused (on made todo) = None
+why_refused (back why made) = Some why
+why_refused (over why) = Some why
+
 -- On its way back a line drops the regions that it added, and gives up its claim; the other steps are not undone.
 abbrev pub undoing : Ask → Ask
 undoing (add row) = drop Making row
@@ -132,8 +147,8 @@ undoing _ = turn Making None
 -- What is left of a line, if nothing more turns it back or ends it.
 abbrev pub left : Place → List Ask
 left (on made todo) = todo
-left (back made) = map undoing made
-left over = []
+left (back why made) = map undoing made
+left (over why) = []
 
 abbrev pub first : List Ask → Option Ask
 first [] = None
@@ -142,37 +157,43 @@ first (ask ∷ more) = Some ask
 -- What a reply says of a line: it goes on, it turns back, or it ends.
 pub data Verdict : Type 0 where
   goes_on : Verdict
-  turns_back : Verdict
-  ends : Verdict
+  turns_back : (why : Refusal) → Verdict
+  ends : (why : Refusal) → Verdict
 
-abbrev pub ends_if : (refused : Bool) → Verdict
-ends_if refused = if refused then ends else goes_on
+-- A refusal ends a line, or turns it back.
+abbrev pub ends_for : Option Refusal → Verdict
+ends_for None = goes_on
+ends_for (Some why) = ends why
+
+abbrev pub turns_for : Option Refusal → Verdict
+turns_for None = goes_on
+turns_for (Some why) = turns_back why
 
 -- A line turns back where an addition is refused, and ends where the directory refuses a later step by guest; after
 -- every other reply it goes on.
 abbrev pub later_verdict : Ask → Reply → Verdict
-later_verdict (add row) r = if is_refused r then turns_back else goes_on
-later_verdict (change asked index) r = ends_if (is_refused_by_directory r)
-later_verdict (reset_device row) r = ends_if (is_refused_by_directory r)
+later_verdict (add row) r = turns_for (refusal_of r)
+later_verdict (change asked index) r = ends_for (directory_refusal_of r)
+later_verdict (reset_device row) r = ends_for (directory_refusal_of r)
 later_verdict _ r = goes_on
 
 -- A line ends where its first step is refused.
 abbrev pub verdict : (made : List Ask) → Ask → Reply → Verdict
-verdict [] ask r = ends_if (is_refused r)
+verdict [] ask r = ends_for (refusal_of r)
 verdict (a ∷ made) ask r = later_verdict ask r
 
 -- Where the verdict on the step that was next leaves a line.
 abbrev pub moved : (made : List Ask) → Ask → (todo : List Ask) → Verdict → Place
 moved made ask todo goes_on = on (ask ∷ made) todo
-moved made ask todo turns_back = back made
-moved made ask todo ends = over
+moved made ask todo (turns_back why) = back why made
+moved made ask todo (ends why) = over why
 
 abbrev pub place_after : Place → Reply → Place
 place_after (on made []) r = on made []
 place_after (on made (ask ∷ todo)) r = moved made ask todo (verdict made ask r)
-place_after (back []) r = back []
-place_after (back (ask ∷ made)) r = back made
-place_after over r = over
+place_after (back why []) r = back why []
+place_after (back why (ask ∷ made)) r = back why made
+place_after (over why) r = over why
 
 -- The guest that a line has learnt: a claim's reply tells it, and a stage that is turned hands it over.
 abbrev pub learnt : Option (ℕ × ℕ) → Reply → Carry → Option (ℕ × ℕ)
@@ -221,7 +242,7 @@ change_step reset vcpu by = step.Reset (record { vcpu = vcpu; guest = Some by })
 
 -- The step that is asked, where the directory gives this generation.
 abbrev pub step_of : LineState → (given : Option Generation) → Ask → Step
-step_of line given (only one) = one
+step_of line given (only one) = one given
 step_of line given rest = step.Rest (record {})
 step_of line given (look vcpu) = step.Look (record { vcpu = vcpu })
 step_of line given claim = step.Name (record { name = guest_name line.asked })

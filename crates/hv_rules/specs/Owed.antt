@@ -1,8 +1,9 @@
 -- The interrupt steps that an actor owes after a step on a device: samples of lines, and pins of VCPUs.
-use Rattle.std.specs.Prelude.{ℕ, ◌+◌, ◌*◌, ◌/◌, ◌%◌, ◌^◌, ◌==◌, Bool, true, false, Option, None, Some, List, [], ◌∷◌, ◌++◌, filter, map}
+use Rattle.std.specs.Prelude.{if◌then◌else◌, ℕ, ◌+◌, ◌*◌, ◌/◌, ◌%◌, ◌^◌, ◌==◌, Bool, true, false, Option, None, Some, List, [], ◌∷◌, ◌++◌, filter, map}
 use Rattle.std.specs.List.{range_with_len}
 use Rattle.hv_kinds.specs.declared.changes.SignalChanges.{SignalChanges}
 use Rattle.hv_kinds.specs.declared.generation.Generation.{Generation}
+use Rattle.hv_region.specs.declared.plan.RegionPlan.{RegionPlan}
 use Rattle.hv_step.specs.declared.step.Step.{Step}
 use Rattle.hv_step.specs.declared.step.Step.TheVariants as step
 use Rattle.hv_text.specs.declared.limits.TheConstants.{GUEST_VCPUS}
@@ -30,7 +31,20 @@ pin_step generation row index =
 abbrev pub pin_steps : Generation → (row : ℕ) → (pins : ℕ) → List Step
 pin_steps generation row pins = map (pin_step generation row) (filter (has_changed pins) (range_with_len 0 GUEST_VCPUS))
 
--- What changed of a region's signals is owed: first the sample, then the pins.
+-- The sample that a region gives to one that takes its interrupts, if that is the one in this row.
+abbrev pub sample_to : Generation → (row new : ℕ) → (parent : Option (ℕ × ℕ)) → List Step
+sample_to generation row new None = []
+sample_to generation row new (Some parent) =
+    if parent.0 == new then samples generation row (Some parent) true else []
+
+-- Once a device is added in a row, each region whose interrupts it takes gives it a sample, by row from a number on.
+abbrev pub child_samples : Generation → (new from : ℕ) → List RegionPlan → List Step
+child_samples generation new from [] = []
+child_samples generation new from (region ∷ regions) =
+    sample_to generation from new region.parent ++ child_samples generation new (from + 1) regions
+
+-- What changed of a region's signals is owed: first the sample, then the pins. Behind these an addition of a device to a
+-- guest that is made owes the samples of the regions whose interrupts it takes.
 abbrev pub owed_for : Generation → (row : ℕ) → (parent : Option (ℕ × ℕ)) → SignalChanges → List Step
 owed_for generation row parent changes =
     samples generation row parent changes.line ++ pin_steps generation row changes.pins

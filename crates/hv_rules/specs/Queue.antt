@@ -9,11 +9,6 @@ use Rattle.hv_step.specs.declared.step.Step.TheVariants as step
 use Rattle.hv_rules.specs.Balance.{longest, shortest, is_uneven, told_move}
 use Rattle.hv_rules.specs.Carry.{Carry}
 
--- The entry that a queue gives: its last one, where it is the longest of queues that are uneven.
-abbrev pub given : (gives : Bool) → List QueueEntry → Option QueueEntry
-given true queue = last_of queue
-given false queue = None
-
 -- The longest queue says which entry is moved; where the queues are even, none is.
 abbrev pub SaysMoved : (is_longest : Bool) → (uneven : Bool) → List QueueEntry → Option QueueEntry → Type 0
 SaysMoved is_longest false queue moved = moved ≡ None

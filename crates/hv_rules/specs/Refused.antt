@@ -1,6 +1,5 @@
 -- Which replies refuse their step, and for what.
-use Rattle.std.specs.Prelude.{Bool, true, false, Result, Ok, Err, Option, None, Some, is_some}
-use Rattle.std.specs.Option.{option_map_or}
+use Rattle.std.specs.Prelude.{Bool, true, false, if◌then◌else◌, Result, Ok, Err, Option, None, Some}
 use Rattle.hv_answer.specs.declared.reply.Reply.{Reply}
 use Rattle.hv_answer.specs.declared.reply.Reply.TheVariants as reply
 use Rattle.hv_refusal.specs.declared.refusal.Refusal.{Refusal}
@@ -49,8 +48,10 @@ is_by_directory (GuestState stage) = true
 is_by_directory NoRegion = true
 is_by_directory _ = false
 
-abbrev pub is_refused : Reply → Bool
-is_refused r = is_some (refusal_of r)
+-- Of refusals, those by the directory.
+abbrev pub by_directory : Option Refusal → Option Refusal
+by_directory None = None
+by_directory (Some why) = if is_by_directory why then Some why else None
 
-abbrev pub is_refused_by_directory : Reply → Bool
-is_refused_by_directory r = option_map_or is_by_directory (refusal_of r) false
+abbrev pub directory_refusal_of : Reply → Option Refusal
+directory_refusal_of r = by_directory (refusal_of r)
