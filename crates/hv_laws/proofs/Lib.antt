@@ -1,0 +1,5 @@
+pub mod Frame
+pub mod States
+pub mod Rows
+pub mod Current
+pub mod Runs

@@ -1,0 +1,8 @@
+//! The laws of every run of the hypervisor, from the rules of its queues, VCPUs and harts.
+//!
+//! Terminals may make any step to which the components agree: the laws hold whatever terminals do.
+#![tactic(auto)]
+
+mod laws;
+
+pub use laws::{a_vcpu_runs_on_one_hart, running_vcpus_are_current};
