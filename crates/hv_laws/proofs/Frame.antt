@@ -24,6 +24,9 @@ pub or-true : (a b : Bool) → a ≡ true → (a || b) ≡ true
 or-true true b is = refl
 or-true false b is = absurd (cc)
 
+pub false-true : false ≡ true → ⊥
+false-true is = cc
+
 pub true-false : (b : Bool) → b ≡ true → b ≡ false → ⊥
 true-false b p q = cc
 

@@ -2,4 +2,10 @@ pub mod Frame
 pub mod States
 pub mod Rows
 pub mod Current
+pub mod Sums
+pub mod Weights
+pub mod Worths
+pub mod Steps
+pub mod Counted
+pub mod Ready
 pub mod Runs

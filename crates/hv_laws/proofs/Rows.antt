@@ -232,3 +232,27 @@ signals-kept hart (step.Access s) (reply.Access (Some accessed)) c was =
     all-append is_signal hart.owed (owed_for s.generation s.row c.parent accessed.changes) was (owed-signal s.generation s.row c.parent accessed.changes)
 signals-kept hart (step.Fault s) r c was = rw (faulted-owed hart s.access) was
 signals-kept hart s r c was = was
+
+-- a hart's number of harts stays
+fetched-harts : (hart : HartState) (generation : Generation) (o : Outcome) (c : Carry) → (fetched hart generation o c).harts ≡ hart.harts
+fetched-harts hart generation outcome.Access c = refl
+fetched-harts hart generation outcome.Wait c = refl
+fetched-harts hart generation _ c = refl
+
+faulted-harts : (hart : HartState) (kind : AccessKind) → (faulted hart kind).harts ≡ hart.harts
+faulted-harts hart access.Execute = refl
+faulted-harts hart _ = refl
+
+pub harts-same : (hart : HartState) (s : Step) (r : Reply) (c : Carry) → (hart_after hart s r c).harts ≡ hart.harts
+harts-same hart (step.Sample s) (reply.Sample None) c = refl
+harts-same hart (step.Sample s) (reply.Sample (Some sampled)) c = refl
+harts-same hart (step.Tick s) (reply.Tick None) c = refl
+harts-same hart (step.Tick s) (reply.Tick (Some changes)) c = refl
+harts-same hart (step.Dispatch s) (reply.Dispatch (Ok slice)) c = refl
+harts-same hart (step.Dispatch s) r c = refl
+harts-same hart (step.Fetch s) (reply.Fetch None) c = refl
+harts-same hart (step.Fetch s) (reply.Fetch (Some done)) c = fetched-harts hart s.generation done.outcome c
+harts-same hart (step.Access s) (reply.Access None) c = refl
+harts-same hart (step.Access s) (reply.Access (Some accessed)) c = refl
+harts-same hart (step.Fault s) r c = faulted-harts hart s.access
+harts-same hart s r c = refl

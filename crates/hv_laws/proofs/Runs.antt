@@ -1,13 +1,34 @@
 -- What holds at the start of a run and is kept by each step holds at each board that it reaches.
-use Rattle.std.proofs.Common.{◌≡◌, ℕ, zero, suc, Bool, true, false, ◌==◌, refl, ap, sym, ◌∙◌, subst, eqb-true, eq-eqb, List, [], ◌∷◌}
+use Rattle.std.proofs.Common.{◌≡◌, ℕ, zero, suc, ◌<◌, Bool, true, false, ◌==◌, if◌then◌else◌, refl, ap, sym, ◌∙◌, subst, arith, eqb-true, eq-eqb, List, [], ◌∷◌}
+use Rattle.std.specs.Prelude.{Some, Ok, not}
 use Rattle.std.specs.List.{list_all}
-use Rattle.hv_kinds.specs.declared.state.State.TheVariants.{Running}
+use Rattle.hv_answer.specs.declared.reply.Reply.{Reply}
+use Rattle.hv_answer.specs.declared.reply.Reply.TheVariants as reply
+use Rattle.hv_event.specs.declared.event.ActorId.{ActorId}
+use Rattle.hv_event.specs.declared.event.ActorId.TheVariants.{Hart, Terminal}
+use Rattle.hv_kinds.specs.declared.state.State.{State}
+use Rattle.hv_kinds.specs.declared.state.State.TheVariants.{Ready, Running}
+use Rattle.hv_queue.specs.Queue.{weigh, count_in, head_of}
+use Rattle.hv_rules.specs.Carry.{Carry}
+use Rattle.hv_event.specs.declared.event.CellId.TheVariants.{Queue, Vcpu}
+use Rattle.hv_rules.specs.Hart.{HartAgrees, hart_after}
+use Rattle.hv_rules.specs.Vcpu.{dispatched}
+use Rattle.hv_step.specs.declared.step.Step.{Step}
+use Rattle.hv_step.specs.declared.step.Step.TheVariants as step
+use Rattle.hv_vcpu.specs.Table.{led}
+use Rattle.hv_vcpu.specs.declared.moves.Move.TheVariants as move
 use Rattle.hv_laws.specs.Board.{Board, Made, IsStep}
 use Rattle.hv_laws.specs.Run.{IsStart, IsRun, IsReached}
-use Rattle.hv_laws.specs.Laws.{current_of, RunningIsCurrent, RunsApart}
+use Rattle.hv_laws.specs.Laws.{current_of, is_ready, one_if, RunningIsCurrent, RunsApart, ReadyIsQueued, DispatchIsNotRefused}
+use Rattle.hv_laws.proofs.Current.{RunsCurrent, OwesSignals, some-same, runs-current-kept, owes-signals-kept, vcpu-touched}
+use Rattle.hv_laws.proofs.Frame.{touched, or-true}
+use Rattle.hv_laws.proofs.Ready.{Ordered, ordered-kept, hart-there}
 use Rattle.hv_laws.proofs.Rows.{is_signal}
-use Rattle.hv_laws.proofs.Current.{RunsCurrent, OwesSignals, some-same, runs-current-kept, owes-signals-kept}
 use Rattle.hv_laws.proofs.States.{running-same}
+use Rattle.hv_laws.proofs.Steps.{queue-touched}
+use Rattle.hv_laws.proofs.Sums.{sum-none, sum-part}
+use Rattle.hv_laws.proofs.Weights.{valued, head-stands}
+use Rattle.hv_laws.proofs.Worths.{worth-none}
 
 run-keeps : (count : ℕ) (P : Board → Type 0) → ((before after : Board) (made : Made) → IsStep count before after made → P before → P after)
     → (from : Board) (steps : List Made) (to : Board) → IsRun count from steps to → P from → P to
@@ -50,3 +71,70 @@ runs-apart count b is v w g h p q =
     (λ same.
     eq-eqb v w (some-same (current_of (b.harts h)) v w
     (running-is-current count b is v h (p ∙ ap Running (eqb-true g h same))) (running-is-current count b is w h q)))
+
+-- at the start no VCPU is ready, and no queue has an entry
+start-not-ready : (count : ℕ) (b : Board) → IsStart count b → (v : ℕ) → is_ready (b.vcpus v).state ≡ false
+start-not-ready count b is zero = ap is_ready is.orphan
+start-not-ready count b is (suc v) = ap (λ x. is_ready x.state) (is.others v)
+
+start-ordered : (count : ℕ) (b : Board) → IsStart count b → Ordered count b
+start-ordered count b is = record {
+  owes = λ h. ap (λ owed. list_all is_signal owed) (is.nothing_owed h);
+  known = is.known;
+  absent = is.absent;
+  counted = λ v f.
+      sum-none count (λ g. weigh (valued v f) (b.queues g)) (λ g l. ap (weigh (valued v f)) (is.queues g)) ∙ sym (worth-none f (b.vcpus v) (start-not-ready count b is v));
+}
+
+ordered-reached : (count : ℕ) → 0 < count → (b : Board) → IsReached count b → Ordered count b
+ordered-reached count positive = reached-keeps count (Ordered count) (start-ordered count) (λ b a m is o. ordered-kept count positive b a o m is)
+
+own-none : (b : Bool) (p : ℕ) → (if b then one_if (not (p == p)) else 0) ≡ 0
+own-none true p = rw (eq-eqb p p refl) refl
+own-none false p = refl
+
+pub ready-is-queued : ReadyIsQueued
+ready-is-queued count b positive is v =
+    let counted = (ordered-reached count positive b is).counted v in
+    let x = b.vcpus v in
+    record {
+      once = counted (λ p. 1);
+      own_priority = counted (λ p. one_if (not (p == x.plan.priority))) ∙ own-none (is_ready x.state) x.plan.priority;
+    }
+
+-- a VCPU that stands in a queue is ready
+one-if-true : (b : Bool) → 0 < one_if b → b ≡ true
+one-if-true true l = refl
+one-if-true false l = absurd (omega arith)
+
+ready-is : (s : State) → is_ready s ≡ true → s ≡ Ready
+ready-is Ready is = refl
+ready-is _ is = absurd (cc)
+
+standing-ready : (count : ℕ) (b : Board) → Ordered count b → (g v : ℕ) → g < count → head_of (b.queues g) ≡ Some v → (b.vcpus v).state ≡ Ready
+standing-ready count b o g v l head =
+    let stood = head-stands (b.queues g) v head in
+    let part = sum-part count g (λ k. count_in v (b.queues k)) l in
+    let total = o.counted v (λ p. 1) in
+    ready-is (b.vcpus v).state (one-if-true (is_ready (b.vcpus v).state) (omega arith))
+
+dispatch-answer : (count : ℕ) (positive : 0 < count) (b a : Board) (by : ActorId) (vcpu : ℕ) (r : Reply) (c : Carry) → Ordered count b
+    → IsStep count b a (record { by = by; step = step.Dispatch (record { vcpu = vcpu }); reply = r; carry = c }) → r ≡ reply.Dispatch (Ok (b.vcpus vcpu).plan.slice)
+dispatch-answer count positive b a (Terminal t) vcpu r c o is =
+    let at = vcpu-touched count b a (record { by = Terminal t; step = step.Dispatch (record { vcpu = vcpu }); reply = r; carry = c }) is vcpu (or-true (vcpu == vcpu) false (eq-eqb vcpu vcpu refl)) in
+    absurd at.0
+dispatch-answer count positive b a (Hart h) vcpu r c o is =
+    let s : Step = step.Dispatch (record { vcpu = vcpu }) in
+    let m : Made = record { by = Hart h; step = s; reply = r; carry = c } in
+    let cs = Queue h ∷ Vcpu vcpu ∷ [] in
+    let at = vcpu-touched count b a m is vcpu (or-true (vcpu == vcpu) false (eq-eqb vcpu vcpu refl)) in
+    let here = queue-touched cs b a m is.components h (or-true (h == h) false (eq-eqb h h refl)) in
+    let agreed = (touched (h == h) (HartAgrees h (b.harts h) s c) (hart_after (b.harts h) s r c) (b.harts h) (a.harts h) (eq-eqb h h refl) (is.actor h)).0 in
+    let there = hart-there count positive b a o h s c agreed in
+    let ready = standing-ready count b o h vcpu there here.0 in
+    at.0 ∙ ap (λ x. reply.Dispatch (dispatched (b.vcpus vcpu).plan.slice (led (move.Dispatch h) x))) ready
+
+pub dispatch-is-not-refused : DispatchIsNotRefused
+dispatch-is-not-refused count b next made vcpu positive reached is dispatches =
+    dispatch-answer count positive b next made.by vcpu made.reply made.carry (ordered-reached count positive b reached)
+    (subst (λ s. IsStep count b next (record { by = made.by; step = s; reply = made.reply; carry = made.carry })) dispatches is)

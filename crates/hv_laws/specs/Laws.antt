@@ -1,8 +1,13 @@
 -- The laws of every run: which VCPUs run, and which stand in queues.
-use Rattle.std.specs.Prelude.{◌≡◌, ℕ, ◌==◌, Option, Some, option_map}
-use Rattle.hv_kinds.specs.declared.state.State.TheVariants.{Running}
+use Rattle.std.specs.Prelude.{◌≡◌, ℕ, zero, suc, ◌+◌, ◌<◌, ◌==◌, not, Bool, true, false, if◌then◌else◌, Option, Some, Ok, option_map}
+use Rattle.hv_answer.specs.declared.reply.Reply.TheVariants as reply
+use Rattle.hv_kinds.specs.declared.state.State.{State}
+use Rattle.hv_kinds.specs.declared.state.State.TheVariants.{Ready, Running}
+use Rattle.hv_queue.specs.Queue.{weigh, of_vcpu}
+use Rattle.hv_queue.specs.declared.entry.QueueEntry.{QueueEntry}
 use Rattle.hv_rules.specs.Hart.{HartState}
-use Rattle.hv_laws.specs.Board.{Board}
+use Rattle.hv_step.specs.declared.step.Step.TheVariants as step
+use Rattle.hv_laws.specs.Board.{Board, Made, IsStep}
 use Rattle.hv_laws.specs.Run.{IsReached}
 
 -- The VCPU that a hart runs.
@@ -20,3 +25,37 @@ abbrev pub RunsApart : Type 0
 RunsApart =
     (count : ℕ) (board : Board) → IsReached count board → (v w g h : ℕ)
     → (board.vcpus v).state ≡ Running g → (board.vcpus w).state ≡ Running h → (v == w) ≡ (g == h)
+
+-- A number for each of the first ones, added up.
+abbrev pub sum_below : (count : ℕ) → (ℕ → ℕ) → ℕ
+sum_below zero f = 0
+sum_below (suc n) f = f n + sum_below n f
+
+-- What the entries of the queues of all harts weigh together.
+abbrev pub standing_of : (count : ℕ) → Board → (QueueEntry → ℕ) → ℕ
+standing_of count board weight = sum_below count (λ g. weigh weight (board.queues g))
+
+abbrev pub is_ready : State → Bool
+is_ready Ready = true
+is_ready _ = false
+
+abbrev pub one_if : Bool → ℕ
+one_if b = if b then 1 else 0
+
+-- An entry of a VCPU with another priority than this one weighs 1, and any other nothing.
+abbrev pub foreign : (vcpu priority : ℕ) → QueueEntry → ℕ
+foreign vcpu priority entry = if vcpu == entry.vcpu then one_if (not (entry.priority == priority)) else 0
+
+-- A VCPU stands in all queues together once where it is ready, and else nowhere; and with no priority but its own.
+pub record StandsWhereReady (count : ℕ) (board : Board) (v : ℕ) : Type 0 where
+  pub once : standing_of count board (of_vcpu v) ≡ one_if (is_ready (board.vcpus v).state)
+  pub own_priority : standing_of count board (foreign v (board.vcpus v).plan.priority) ≡ 0
+
+abbrev pub ReadyIsQueued : Type 0
+ReadyIsQueued = (count : ℕ) (board : Board) → 0 < count → IsReached count board → (v : ℕ) → StandsWhereReady count board v
+
+-- What a hart dispatches is ready, so that it gets its slice and no refusal.
+abbrev pub DispatchIsNotRefused : Type 0
+DispatchIsNotRefused =
+    (count : ℕ) (board next : Board) (made : Made) (vcpu : ℕ) → 0 < count → IsReached count board → IsStep count board next made
+    → made.step ≡ step.Dispatch (record { vcpu = vcpu }) → made.reply ≡ reply.Dispatch (Ok (board.vcpus vcpu).plan.slice)

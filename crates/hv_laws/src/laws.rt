@@ -1,5 +1,5 @@
 //! Laws of runs, each the contract of a function that does nothing.
-ghost use Rattle.hv_laws.specs.Laws.{RunningIsCurrent, RunsApart};
+ghost use Rattle.hv_laws.specs.Laws.{RunningIsCurrent, RunsApart, ReadyIsQueued, DispatchIsNotRefused};
 
 /// A VCPU that runs on a hart is the one that the hart runs.
 pub fn running_vcpus_are_current()
@@ -9,4 +9,15 @@ pub fn running_vcpus_are_current()
 /// A VCPU runs on one hart, and a hart runs one VCPU.
 pub fn a_vcpu_runs_on_one_hart()
     ensures { RunsApart }
+{}
+
+/// A VCPU stands in the queues of all harts together once where it is ready, and else nowhere, and
+/// with its own priority.
+pub fn ready_vcpus_are_queued()
+    ensures { ReadyIsQueued }
+{}
+
+/// A dispatch of a queue's head is not refused.
+pub fn no_dispatch_is_refused()
+    ensures { DispatchIsNotRefused }
 {}

@@ -5,4 +5,7 @@
 
 mod laws;
 
-pub use laws::{a_vcpu_runs_on_one_hart, running_vcpus_are_current};
+pub use laws::{
+    a_vcpu_runs_on_one_hart, no_dispatch_is_refused, ready_vcpus_are_queued,
+    running_vcpus_are_current,
+};
