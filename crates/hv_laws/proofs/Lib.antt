@@ -7,5 +7,6 @@ pub mod Weights
 pub mod Worths
 pub mod Steps
 pub mod Counted
+pub mod Beyond
 pub mod Ready
 pub mod Runs

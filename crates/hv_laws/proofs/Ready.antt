@@ -41,6 +41,7 @@ use Rattle.hv_vcpu.specs.declared.moves.Move.TheVariants as move
 use Rattle.hv_vcpu.specs.declared.moves.WrongState.{WrongState}
 use Rattle.hv_laws.specs.Board.{Board, Made, Changes, IsStep, is_vcpu, is_hart}
 use Rattle.hv_laws.specs.Laws.{standing_of, current_of}
+use Rattle.hv_laws.proofs.Beyond.{empty-kept}
 use Rattle.hv_laws.proofs.Counted.{Counted, quiet, arrives-if, leaves-if, departs-if}
 use Rattle.hv_laws.proofs.Current.{OwesSignals, owes-signals-kept, hart-step}
 use Rattle.hv_laws.proofs.Frame.{touched, or-false, or-true, at-same, false-true}
@@ -477,6 +478,7 @@ pub record Ordered (count : ℕ) (b : Board) : Type 0 where
   pub known : (h : ℕ) → (b.harts h).harts ≡ count
   pub absent : (h : ℕ) → count ≤ h → row_of h (b.harts h) ≡ ends
   pub counted : (v : ℕ) → Counted count b v
+  pub beyond : (g : ℕ) → count ≤ g → b.queues g ≡ []
 
 module _ (count : ℕ) (positive : 0 < count) (before after : Board) (J : Ordered count before) where
   agreed : (h : ℕ) (by : ActorId) (s : Step) (r : Reply) (c : Carry) → by ≡ Hart h → IsStep count before after (made count positive before after by s r c) → HartAgrees h (before.harts h) s c
@@ -495,6 +497,7 @@ module _ (count : ℕ) (positive : 0 < count) (before after : Board) (J : Ordere
     known = λ h. hart-step count before after m is h (λ hart. hart.harts ≡ count) (λ t ok. harts-same (before.harts h) m.step m.reply m.carry ∙ J.known h) (λ t. J.known h);
     absent = λ h out.
         hart-step count before after m is h (λ hart. row_of h hart ≡ ends) (λ t ok. absurd (none-made h (before.harts h) m.step m.carry (J.absent h out) ok)) (λ t. J.absent h out);
+    beyond = λ g out. empty-kept count positive g out before after m is.components (λ h by. hart-there h m.step m.carry (agreed h m.by m.step m.reply m.carry by is)) (J.beyond g out);
     counted = λ v.
         step-kept count positive before after m.by m.step m.reply m.carry
         (λ h by. hart-there h m.step m.carry (agreed h m.by m.step m.reply m.carry by is))

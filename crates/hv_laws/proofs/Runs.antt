@@ -1,7 +1,7 @@
 -- What holds at the start of a run and is kept by each step holds at each board that it reaches.
 use Rattle.std.proofs.Common.{◌≡◌, ℕ, zero, suc, ◌<◌, Bool, true, false, ◌==◌, if◌then◌else◌, refl, ap, sym, ◌∙◌, subst, arith, eqb-true, eq-eqb, List, [], ◌∷◌}
 use Rattle.std.specs.Prelude.{Some, Ok, not}
-use Rattle.std.specs.List.{list_all}
+use Rattle.std.specs.List.{list_all, list_any, range_with_len}
 use Rattle.hv_answer.specs.declared.reply.Reply.{Reply}
 use Rattle.hv_answer.specs.declared.reply.Reply.TheVariants as reply
 use Rattle.hv_event.specs.declared.event.ActorId.{ActorId}
@@ -11,21 +11,23 @@ use Rattle.hv_kinds.specs.declared.state.State.TheVariants.{Ready, Running}
 use Rattle.hv_queue.specs.Queue.{weigh, count_in, head_of}
 use Rattle.hv_rules.specs.Carry.{Carry}
 use Rattle.hv_event.specs.declared.event.CellId.TheVariants.{Queue, Vcpu}
+use Rattle.hv_rules.specs.Footprint.{components, reached}
 use Rattle.hv_rules.specs.Hart.{HartAgrees, hart_after}
-use Rattle.hv_rules.specs.Vcpu.{dispatched}
+use Rattle.hv_rules.specs.Vcpu.{VcpuAgrees, runs_on, dispatched}
 use Rattle.hv_step.specs.declared.step.Step.{Step}
 use Rattle.hv_step.specs.declared.step.Step.TheVariants as step
 use Rattle.hv_vcpu.specs.Table.{led}
+use Rattle.hv_vcpu.specs.Vcpu.{VcpuValue}
 use Rattle.hv_vcpu.specs.declared.moves.Move.TheVariants as move
-use Rattle.hv_laws.specs.Board.{Board, Made, IsStep}
+use Rattle.hv_laws.specs.Board.{Board, Made, IsStep, is_vcpu}
 use Rattle.hv_laws.specs.Run.{IsStart, IsRun, IsReached}
-use Rattle.hv_laws.specs.Laws.{current_of, is_ready, one_if, RunningIsCurrent, RunsApart, ReadyIsQueued, DispatchIsNotRefused}
+use Rattle.hv_laws.specs.Laws.{current_of, vcpu_run, StepsAreOfTheCurrent, is_ready, one_if, RunningIsCurrent, RunsApart, ReadyIsQueued, DispatchIsNotRefused}
 use Rattle.hv_laws.proofs.Current.{RunsCurrent, OwesSignals, some-same, runs-current-kept, owes-signals-kept, vcpu-touched}
 use Rattle.hv_laws.proofs.Frame.{touched, or-true}
 use Rattle.hv_laws.proofs.Ready.{Ordered, ordered-kept, hart-there}
 use Rattle.hv_laws.proofs.Rows.{is_signal}
 use Rattle.hv_laws.proofs.States.{running-same}
-use Rattle.hv_laws.proofs.Steps.{queue-touched}
+use Rattle.hv_laws.proofs.Steps.{queue-touched, past-queues}
 use Rattle.hv_laws.proofs.Sums.{sum-none, sum-part}
 use Rattle.hv_laws.proofs.Weights.{valued, head-stands}
 use Rattle.hv_laws.proofs.Worths.{worth-none}
@@ -82,6 +84,7 @@ start-ordered count b is = record {
   owes = λ h. ap (λ owed. list_all is_signal owed) (is.nothing_owed h);
   known = is.known;
   absent = is.absent;
+  beyond = λ g out. is.queues g;
   counted = λ v f.
       sum-none count (λ g. weigh (valued v f) (b.queues g)) (λ g l. ap (weigh (valued v f)) (is.queues g)) ∙ sym (worth-none f (b.vcpus v) (start-not-ready count b is v));
 }
@@ -95,11 +98,13 @@ own-none false p = refl
 
 pub ready-is-queued : ReadyIsQueued
 ready-is-queued count b positive is v =
-    let counted = (ordered-reached count positive b is).counted v in
+    let ordered = ordered-reached count positive b is in
+    let counted = ordered.counted v in
     let x = b.vcpus v in
     record {
       once = counted (λ p. 1);
       own_priority = counted (λ p. one_if (not (p == x.plan.priority))) ∙ own-none (is_ready x.state) x.plan.priority;
+      no_other = λ g out. ap (count_in v) (ordered.beyond g out);
     }
 
 -- a VCPU that stands in a queue is ready
@@ -138,3 +143,40 @@ pub dispatch-is-not-refused : DispatchIsNotRefused
 dispatch-is-not-refused count b next made vcpu positive reached is dispatches =
     dispatch-answer count positive b next made.by vcpu made.reply made.carry (ordered-reached count positive b reached)
     (subst (λ s. IsStep count b next (record { by = made.by; step = s; reply = made.reply; carry = made.carry })) dispatches is)
+
+-- a step that runs a VCPU touches it, and the VCPU agrees where it runs on the actor
+named : (v u : ℕ) → Some u ≡ Some v → (v == u) ≡ true
+named v u is = eq-eqb v u (some-injective u v is)
+  where
+    some-injective : (u v : ℕ) → Some u ≡ Some v → v ≡ u
+    some-injective u v is = cc
+
+run-touched : (count : ℕ) (by : ActorId) (s : Step) (r : Reply) (c : Carry) (v : ℕ) → vcpu_run s ≡ Some v → list_any (is_vcpu v) (components count by s r c) ≡ true
+run-touched count (Hart h) (step.Preempt s) r c v is = or-true (v == s.vcpu) false (named v s.vcpu is)
+run-touched count (Terminal t) (step.Preempt s) r c v is = or-true (v == s.vcpu) false (named v s.vcpu is)
+run-touched count by (step.Take s) r c v is = or-true (v == s.vcpu) false (named v s.vcpu is)
+run-touched count by (step.Fetch s) r c v is = or-true (v == s.vcpu) (list_any (is_vcpu v) (reached s.generation s.row c.area)) (named v s.vcpu is)
+run-touched count by (step.Access s) r c v is = or-true (v == s.vcpu) (list_any (is_vcpu v) (reached s.generation s.row c.area)) (named v s.vcpu is)
+run-touched count by (step.Fault s) r c v is = or-true (v == s.vcpu) false (named v s.vcpu is)
+run-touched count by (step.Balance s) r c v is = past-queues v (range_with_len 0 count) (Vcpu 0 ∷ []) ∙ or-true (v == 0) false (named v 0 is)
+run-touched count by _ r c v is = absurd (cc)
+
+run-agreed : (by : ActorId) (x : VcpuValue) (s : Step) (r : Reply) (c : Carry) (v : ℕ) → vcpu_run s ≡ Some v → VcpuAgrees by x s r c → runs_on by x.state ≡ true
+run-agreed by x (step.Preempt s) r c v is ok = ok.0
+run-agreed by x (step.Take s) r c v is ok = ok.0
+run-agreed by x (step.Fetch s) r c v is ok = ok.0
+run-agreed by x (step.Access s) r c v is ok = ok.0
+run-agreed by x (step.Fault s) r c v is ok = ok.0
+run-agreed by x (step.Balance s) r c v is ok = ok
+run-agreed by x _ r c v is ok = absurd (cc)
+
+runs-by : (by : ActorId) (s : State) → runs_on by s ≡ true → (h : ℕ) × (by ≡ Hart h) × (s ≡ Running h)
+runs-by (Hart h) (Running g) is = (h, refl, ap Running (sym (eqb-true h g is)))
+runs-by (Hart h) _ is = absurd (cc)
+runs-by (Terminal t) s is = absurd (cc)
+
+pub steps-are-of-the-current : StepsAreOfTheCurrent
+steps-are-of-the-current count b next made v reached is runs =
+    let at = vcpu-touched count b next made is v (run-touched count made.by made.step made.reply made.carry v runs) in
+    let by = runs-by made.by (b.vcpus v).state (run-agreed made.by (b.vcpus v) made.step made.reply made.carry v runs at.0) in
+    (by.0, by.1, by.2, running-is-current count b reached v by.0 by.2)

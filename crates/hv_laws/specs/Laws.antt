@@ -1,11 +1,13 @@
 -- The laws of every run: which VCPUs run, and which stand in queues.
-use Rattle.std.specs.Prelude.{◌≡◌, ℕ, zero, suc, ◌+◌, ◌<◌, ◌==◌, not, Bool, true, false, if◌then◌else◌, Option, Some, Ok, option_map}
+use Rattle.std.specs.Prelude.{◌≡◌, ℕ, zero, suc, ◌+◌, ◌<◌, ◌≤◌, ◌==◌, not, Bool, true, false, if◌then◌else◌, Option, None, Some, Ok, option_map}
 use Rattle.hv_answer.specs.declared.reply.Reply.TheVariants as reply
+use Rattle.hv_event.specs.declared.event.ActorId.TheVariants.{Hart}
 use Rattle.hv_kinds.specs.declared.state.State.{State}
 use Rattle.hv_kinds.specs.declared.state.State.TheVariants.{Ready, Running}
-use Rattle.hv_queue.specs.Queue.{weigh, of_vcpu}
+use Rattle.hv_queue.specs.Queue.{weigh, of_vcpu, count_in}
 use Rattle.hv_queue.specs.declared.entry.QueueEntry.{QueueEntry}
 use Rattle.hv_rules.specs.Hart.{HartState}
+use Rattle.hv_step.specs.declared.step.Step.{Step}
 use Rattle.hv_step.specs.declared.step.Step.TheVariants as step
 use Rattle.hv_laws.specs.Board.{Board, Made, IsStep}
 use Rattle.hv_laws.specs.Run.{IsReached}
@@ -25,6 +27,22 @@ abbrev pub RunsApart : Type 0
 RunsApart =
     (count : ℕ) (board : Board) → IsReached count board → (v w g h : ℕ)
     → (board.vcpus v).state ≡ Running g → (board.vcpus w).state ≡ Running h → (v == w) ≡ (g == h)
+
+-- The VCPU that a step runs, or ends the run of, if it does.
+abbrev pub vcpu_run : Step → Option ℕ
+vcpu_run (step.Preempt s) = Some s.vcpu
+vcpu_run (step.Take s) = Some s.vcpu
+vcpu_run (step.Fetch s) = Some s.vcpu
+vcpu_run (step.Access s) = Some s.vcpu
+vcpu_run (step.Fault s) = Some s.vcpu
+vcpu_run (step.Balance s) = Some 0
+vcpu_run _ = None
+
+-- Such a step is made by the hart on which the VCPU runs, and which runs it.
+abbrev pub StepsAreOfTheCurrent : Type 0
+StepsAreOfTheCurrent =
+    (count : ℕ) (board next : Board) (made : Made) (v : ℕ) → IsReached count board → IsStep count board next made → vcpu_run made.step ≡ Some v
+    → (h : ℕ) × (made.by ≡ Hart h) × ((board.vcpus v).state ≡ Running h) × (current_of (board.harts h) ≡ Some v)
 
 -- A number for each of the first ones, added up.
 abbrev pub sum_below : (count : ℕ) → (ℕ → ℕ) → ℕ
@@ -46,10 +64,12 @@ one_if b = if b then 1 else 0
 abbrev pub foreign : (vcpu priority : ℕ) → QueueEntry → ℕ
 foreign vcpu priority entry = if vcpu == entry.vcpu then one_if (not (entry.priority == priority)) else 0
 
--- A VCPU stands in all queues together once where it is ready, and else nowhere; and with no priority but its own.
+-- A VCPU stands in the queues of all harts together once where it is ready, and else not at all; with no priority but
+-- its own; and in no other queue.
 pub record StandsWhereReady (count : ℕ) (board : Board) (v : ℕ) : Type 0 where
   pub once : standing_of count board (of_vcpu v) ≡ one_if (is_ready (board.vcpus v).state)
   pub own_priority : standing_of count board (foreign v (board.vcpus v).plan.priority) ≡ 0
+  pub no_other : (g : ℕ) → count ≤ g → count_in v (board.queues g) ≡ 0
 
 abbrev pub ReadyIsQueued : Type 0
 ReadyIsQueued = (count : ℕ) (board : Board) → 0 < count → IsReached count board → (v : ℕ) → StandsWhereReady count board v
