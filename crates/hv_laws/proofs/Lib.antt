@@ -10,3 +10,4 @@ pub mod Counted
 pub mod Beyond
 pub mod Ready
 pub mod Runs
+pub mod Example

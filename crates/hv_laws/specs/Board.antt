@@ -1,5 +1,5 @@
 -- What the harts of a board share out, and what a step changes of it.
-use Rattle.std.specs.Prelude.{◌≡◌, ℕ, ◌==◌, Bool, true, false, List}
+use Rattle.std.specs.Prelude.{◌≡◌, ℕ, ◌==◌, Bool, true, false, if◌then◌else◌, List}
 use Rattle.std.specs.List.{list_any}
 use Rattle.hv_answer.specs.declared.reply.Reply.{Reply}
 use Rattle.hv_event.specs.declared.event.ActorId.{ActorId}
@@ -73,3 +73,20 @@ pub record IsStep (count : ℕ) (before after : Board) (made : Made) : Type 0 wh
       (hart_after (before.harts number) made.step made.reply made.carry)
       (before.harts number)
       (after.harts number)
+
+-- The board that a step leads to.
+abbrev pub board_after : (count : ℕ) → Board → Made → Board
+board_after count before made = record {
+  queues = λ number.
+      if list_any (is_queue number) (components count made.by made.step made.reply made.carry)
+      then queue_after number (before.queues number) made.step made.reply made.carry
+      else before.queues number;
+  vcpus = λ number.
+      if list_any (is_vcpu number) (components count made.by made.step made.reply made.carry)
+      then vcpu_after made.by (before.vcpus number) made.step made.reply made.carry
+      else before.vcpus number;
+  harts = λ number.
+      if is_hart number made.by
+      then hart_after (before.harts number) made.step made.reply made.carry
+      else before.harts number;
+}

@@ -1,3 +1,4 @@
 pub mod Board
 pub mod Run
 pub mod Laws
+pub mod Example

@@ -3,7 +3,7 @@ use Rattle.std.specs.Prelude.{◌≡◌, ℕ, suc, ◌≤◌, List, [], ◌∷�
 use Rattle.hv_kinds.specs.declared.state.State.TheVariants as state
 use Rattle.hv_rules.specs.Hart.{row_of, ends}
 use Rattle.hv_vcpu.specs.Vcpu.{unknown}
-use Rattle.hv_laws.specs.Board.{Board, Made, IsStep}
+use Rattle.hv_laws.specs.Board.{Board, Made, IsStep, board_after}
 
 -- A board at its start: no queue has an entry, the orphan VCPU is in reset and no other is there, no hart runs a VCPU or
 -- owes a step, each knows how many there are, and one that isn't there makes no step.
@@ -20,6 +20,11 @@ pub record IsStart (count : ℕ) (board : Board) : Type 0 where
 abbrev pub IsRun : (count : ℕ) → (from : Board) → List Made → (to : Board) → Type 0
 IsRun count from [] to = to ≡ from
 IsRun count from (made ∷ later) to = (next : Board) × IsStep count from next made × IsRun count next later to
+
+-- The board that steps lead to.
+abbrev pub board_at : (count : ℕ) → (from : Board) → List Made → Board
+board_at count from [] = from
+board_at count from (made ∷ later) = board_at count (board_after count from made) later
 
 -- A board that steps lead to from a start.
 pub record IsReached (count : ℕ) (board : Board) : Type 0 where

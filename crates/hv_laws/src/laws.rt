@@ -1,11 +1,21 @@
 //! Laws of runs, each the contract of a function that does nothing.
-ghost use Rattle.hv_laws.specs.Laws.{
-  RunningIsCurrent,
-  RunsApart,
-  StepsAreOfTheCurrent,
-  ReadyIsQueued,
-  DispatchIsNotRefused,
-};
+ghost use Rattle.std.specs.Prelude.{◌≡◌, false, None, Some};
+ghost use Rattle.hv_kinds.specs.declared.state.State.TheVariants as state;
+ghost use Rattle.hv_laws.specs.Example as example;
+ghost use Rattle.hv_laws.specs.Laws.{current_of, RunningIsCurrent, RunsApart, StepsAreOfTheCurrent};
+ghost use Rattle.hv_laws.specs.Laws.{ReadyIsQueued, DispatchIsNotRefused};
+ghost use Rattle.hv_laws.specs.Run.{IsStart, IsRun, board_at};
+
+/// A run of a board with two harts, and what two of its boards hold.
+pub fn example_runs()
+    ensures start { IsStart 2 example.start }
+    ensures run { IsRun 2 example.start example.left (board_at 2 example.start example.left) }
+    ensures runs { ((board_at 2 example.start example.running).vcpus 0).state ≡ state.Running 0 }
+    ensures current { current_of ((board_at 2 example.start example.running).harts 0) ≡ Some 0 }
+    ensures paused { ((board_at 2 example.start example.left).vcpus 0).state
+        ≡ state.Paused false }
+    ensures left { current_of ((board_at 2 example.start example.left).harts 0) ≡ None }
+{}
 
 /// A VCPU that runs on a hart is the one that the hart runs.
 pub fn running_vcpus_are_current()
