@@ -23,8 +23,9 @@ use Rattle.hv_vcpu.specs.Vcpu.{VcpuValue, with_pins}
 use Rattle.hv_vcpu.specs.declared.moves.Move.TheVariants as move
 use Rattle.hv_laws.specs.Board.{Board, Made, IsStep, is_vcpu, is_hart}
 use Rattle.hv_laws.specs.Laws.{current_of}
-use Rattle.hv_laws.proofs.Frame.{after-step, touched, or-false, or-true, true-false}
+use Rattle.hv_laws.proofs.Frame.{after-step, or-false, or-true, true-false}
 use Rattle.hv_laws.proofs.Rows.{is_signal, Asks, asked, current-same, fetched-same, used-same, signals-kept}
+use Rattle.hv_laws.proofs.Steps.{vcpu-step, vcpu-touched}
 use Rattle.hv_laws.proofs.States.{runs-there, move-running, preempt-stops, dispatch-running, added-running, woken-running, fetched-running, waiting-stops, take-same, access-same}
 
 -- what a step leads to run on a hart ran there before, or is dispatched by it
@@ -123,35 +124,28 @@ module _ (count h : ℕ) (hart : HartState) (x : VcpuValue) (v : ℕ) (cur : cur
   stays-by (Terminal t) s r c is asks shown = absurd (cc)
   stays-by (Hart g) s r c is asks shown = stays s r c asks (subst (λ k. Shown (Hart k) s r c) (sym (eqb-true h g is)) shown)
 
-abbrev pub RunsCurrent : Board → Type 0
+abbrev RunsCurrent : Board → Type 0
 RunsCurrent b = (v h : ℕ) → (b.vcpus v).state ≡ Running h → current_of (b.harts h) ≡ Some v
 
-abbrev pub OwesSignals : Board → Type 0
+abbrev OwesSignals : Board → Type 0
 OwesSignals b = (h : ℕ) → list_all is_signal (b.harts h).owed ≡ true
+
+-- and each hart owes but samples and pins, so that no owed step takes its VCPU from it
+pub record Currents (b : Board) : Type 0 where
+  pub runs : RunsCurrent b
+  pub owes : OwesSignals b
 
 module _ (count : ℕ) (before after : Board) (made : Made) (is : IsStep count before after made) where
   abbrev touched_in : List CellId
   touched_in = components count made.by made.step made.reply made.carry
 
-  abbrev vcpu_then : ℕ → VcpuValue
-  vcpu_then v = vcpu_after made.by (before.vcpus v) made.step made.reply made.carry
-
   abbrev hart_then : ℕ → HartState
   hart_then h = hart_after (before.harts h) made.step made.reply made.carry
-
-  pub vcpu-step : (v : ℕ) (P : VcpuValue → Type 0)
-      → (list_any (is_vcpu v) touched_in ≡ true → VcpuAgrees made.by (before.vcpus v) made.step made.reply made.carry → P (vcpu_then v))
-      → (list_any (is_vcpu v) touched_in ≡ false → P (before.vcpus v)) → P (after.vcpus v)
-  vcpu-step v P =
-      after-step P (list_any (is_vcpu v) touched_in) (VcpuAgrees made.by (before.vcpus v) made.step made.reply made.carry) (vcpu_then v) (before.vcpus v) (after.vcpus v) (is.components.vcpus v)
 
   pub hart-step : (h : ℕ) (P : HartState → Type 0)
       → (is_hart h made.by ≡ true → HartAgrees h (before.harts h) made.step made.carry → P (hart_then h))
       → (is_hart h made.by ≡ false → P (before.harts h)) → P (after.harts h)
   hart-step h P = after-step P (is_hart h made.by) (HartAgrees h (before.harts h) made.step made.carry) (hart_then h) (before.harts h) (after.harts h) (is.actor h)
-
-  pub vcpu-touched : (v : ℕ) → list_any (is_vcpu v) touched_in ≡ true → VcpuAgrees made.by (before.vcpus v) made.step made.reply made.carry × (after.vcpus v ≡ vcpu_then v)
-  vcpu-touched v t = touched (list_any (is_vcpu v) touched_in) (VcpuAgrees made.by (before.vcpus v) made.step made.reply made.carry) (vcpu_then v) (before.vcpus v) (after.vcpus v) t (is.components.vcpus v)
 
   abbrev RanBefore : ℕ → ℕ → Type 0
   RanBefore v h = ((before.vcpus v).state ≡ Running h) ⊎ ((is_hart h made.by ≡ true) × (current_of (hart_then h) ≡ Some v))
@@ -162,7 +156,7 @@ module _ (count : ℕ) (before after : Board) (made : Made) (is : IsStep count b
 
   ran-before : (v h : ℕ) → (after.vcpus v).state ≡ Running h → RanBefore v h
   ran-before v h =
-      vcpu-step v (λ x. x.state ≡ Running h → RanBefore v h)
+      vcpu-step touched_in before after made is.components v (λ x. x.state ≡ Running h → RanBefore v h)
       (λ t ok run. ran-here v h t (becomes count made.by (before.vcpus v) made.step made.reply made.carry h ok run))
       (λ t run. inl run)
 
@@ -172,14 +166,14 @@ module _ (count : ℕ) (before after : Board) (made : Made) (is : IsStep count b
       (λ t agreed.
       stays-by count h (before.harts h) (before.vcpus v) v (J v h was) was made.by made.step made.reply made.carry t
       (asked h (before.harts h) made.step made.carry (O h) agreed)
-      (λ among. let at = vcpu-touched v among in (at.0, ap (λ x. x.state) (sym at.1) ∙ run)))
+      (λ among. let at = vcpu-touched touched_in before after made is.components v among in (at.0, ap (λ x. x.state) (sym at.1) ∙ run)))
       (λ t. J v h was)
   kept-where J O v h run (inr now) =
       hart-step h (λ hart. current_of hart ≡ Some v) (λ t agreed. now.1) (λ t. absurd (true-false (is_hart h made.by) now.0 t))
 
-  pub runs-current-kept : RunsCurrent before → OwesSignals before → RunsCurrent after
-  runs-current-kept J O v h run = kept-where J O v h run (ran-before v h run)
-
-  pub owes-signals-kept : OwesSignals before → OwesSignals after
-  owes-signals-kept O h =
-      hart-step h (λ hart. list_all is_signal hart.owed ≡ true) (λ t agreed. signals-kept (before.harts h) made.step made.reply made.carry (O h)) (λ t. O h)
+  pub currents-kept : Currents before → Currents after
+  currents-kept J = record {
+    runs = λ v h run. kept-where J.runs J.owes v h run (ran-before v h run);
+    owes = λ h.
+        hart-step h (λ hart. list_all is_signal hart.owed ≡ true) (λ t agreed. signals-kept (before.harts h) made.step made.reply made.carry (J.owes h)) (λ t. J.owes h);
+  }

@@ -1,11 +1,11 @@
 pub mod Frame
+pub mod Steps
 pub mod States
 pub mod Rows
 pub mod Current
 pub mod Sums
 pub mod Weights
 pub mod Worths
-pub mod Steps
 pub mod Counted
 pub mod Beyond
 pub mod Ready

@@ -1,9 +1,8 @@
 -- A VCPU is counted in the queues by what it is worth: each step keeps it.
-use Rattle.std.proofs.Common.{◌≡◌, ℕ, ◌<◌, ◌≤◌, ◌%◌, ◌⊎◌, inl, inr, Bool, true, false, ◌==◌, if◌then◌else◌, List, [], ◌∷◌, ◌++◌, length, refl, ap, sym, ◌∙◌, subst, arith, eq-eqb}
+use Rattle.std.proofs.Common.{◌≡◌, ℕ, ◌<◌, ◌≤◌, ◌%◌, Bool, true, false, ◌==◌, if◌then◌else◌, List, [], ◌∷◌, ◌++◌, length, refl, ap, sym, ◌∙◌, subst, arith, eq-eqb}
 use Rattle.std.specs.Prelude.{Option, None, Some, Result, Ok, Err, is_ok, nat_le}
 use Rattle.std.specs.List.{list_any, range_with_len}
 use Rattle.std.proofs.Math.Nat.{mod-lt}
-use Rattle.std.proofs.lemmas.Bool.{cases_lt}
 use Rattle.hv_answer.specs.declared.reply.Reply.{Reply}
 use Rattle.hv_answer.specs.declared.reply.Reply.TheVariants as reply
 use Rattle.hv_event.specs.declared.event.ActorId.{ActorId}
@@ -18,7 +17,7 @@ use Rattle.hv_rules.specs.Carry.{Carry}
 use Rattle.hv_event.specs.declared.event.CellId.{CellId}
 use Rattle.hv_event.specs.declared.event.CellId.TheVariants.{Dir, Queue, Vcpu}
 use Rattle.hv_rules.specs.Footprint.{all_queues, past_dir_if, components}
-use Rattle.hv_rules.specs.Hart.{HartAgrees, hart_after, row_of, ends}
+use Rattle.hv_rules.specs.Hart.{HartAgrees, hart_after}
 use Rattle.hv_rules.specs.Queue.{QueueAgrees, SaysMoved, queue_after, arrived, balanced}
 use Rattle.hv_rules.specs.Vcpu.{VcpuAgrees, vcpu_after, answered, dispatched}
 use Rattle.hv_step.specs.declared.step.Balance.{Balance}
@@ -41,11 +40,11 @@ use Rattle.hv_vcpu.specs.declared.moves.Move.TheVariants as move
 use Rattle.hv_vcpu.specs.declared.moves.WrongState.{WrongState}
 use Rattle.hv_laws.specs.Board.{Board, Made, Changes, IsStep, is_vcpu, is_hart}
 use Rattle.hv_laws.specs.Laws.{standing_of, current_of}
-use Rattle.hv_laws.proofs.Beyond.{empty-kept}
+use Rattle.hv_laws.proofs.Beyond.{is_at_own, empty-kept, idle-kept, own-there}
 use Rattle.hv_laws.proofs.Counted.{Counted, quiet, arrives-if, leaves-if, departs-if}
-use Rattle.hv_laws.proofs.Current.{OwesSignals, owes-signals-kept, hart-step}
+use Rattle.hv_laws.proofs.Current.{Currents, currents-kept, hart-step}
 use Rattle.hv_laws.proofs.Frame.{touched, or-false, or-true, at-same, false-true}
-use Rattle.hv_laws.proofs.Rows.{Asks, asked, none-made, harts-same}
+use Rattle.hv_laws.proofs.Rows.{Asks, asked, harts-same}
 use Rattle.hv_laws.proofs.States.{take-same, access-same}
 use Rattle.hv_laws.proofs.Steps.{queue-step, queue-touched, queue-untouched, vcpu-step, vcpu-touched, vcpu-untouched, past-dir-if, past-queues, queue-among}
 use Rattle.hv_laws.proofs.Sums.{sum-same, sum-two, place-below, uneven-apart, apart-back}
@@ -444,7 +443,7 @@ module _ (count : ℕ) (positive : 0 < count) (before after : Board) where
       let at = vcpu-touched cs before after (made count positive before after (Terminal t) (step.Balance s) r c) changes 0 among in
       absurd (false-true at.0)
 
-  step-kept : (by : ActorId) (s : Step) (r : Reply) (c : Carry) → ((h : ℕ) → by ≡ Hart h → h < count) → ((h : ℕ) → by ≡ Hart h → (now : Option ℕ) × Asks count now s c) → Keeps by s r c
+  step-kept : (by : ActorId) (s : Step) (r : Reply) (c : Carry) → ((h : ℕ) → by ≡ Hart h → is_at_own s ≡ true → h < count) → ((h : ℕ) → by ≡ Hart h → (now : Option ℕ) × Asks count now s c) → Keeps by s r c
   step-kept by (step.Kick s) r c there asks = kick-kept count positive before after by s r c
   step-kept by (step.Resume s) r c there asks = resume-kept count positive before after by s r c
   step-kept by (step.Pause s) r c there asks = pause-kept count positive before after by s r c
@@ -452,11 +451,11 @@ module _ (count : ℕ) (positive : 0 < count) (before after : Board) where
   step-kept by (step.Reset s) r c there asks = reset-kept count positive before after by s r c
   step-kept by (step.Vdrop s) r c there asks = vdrop-kept count positive before after by s r c
   step-kept by (step.Pin s) r c there asks = pin-kept count positive before after by s r c
-  step-kept (Hart h) (step.Preempt s) r c there asks = preempted count positive before after h (there h refl) s r c
+  step-kept (Hart h) (step.Preempt s) r c there asks = preempted count positive before after h (there h refl refl) s r c
   step-kept (Terminal t) (step.Preempt s) r c there asks = λ changes v.
       let at = vcpu-touched (Vcpu s.vcpu ∷ []) before after (made count positive before after (Terminal t) (step.Preempt s) r c) changes s.vcpu (or-true (s.vcpu == s.vcpu) false (eq-eqb s.vcpu s.vcpu refl)) in
       absurd (false-true at.0.0)
-  step-kept (Hart h) (step.Dispatch s) r c there asks = dispatched-kept count positive before after h (there h refl) s r c
+  step-kept (Hart h) (step.Dispatch s) r c there asks = dispatched-kept count positive before after h (there h refl refl) s r c
   step-kept (Terminal t) (step.Dispatch s) r c there asks = λ changes v.
       let at = vcpu-touched (Vcpu s.vcpu ∷ []) before after (made count positive before after (Terminal t) (step.Dispatch s) r c) changes s.vcpu (or-true (s.vcpu == s.vcpu) false (eq-eqb s.vcpu s.vcpu refl)) in
       absurd at.0
@@ -474,37 +473,31 @@ module _ (count : ℕ) (positive : 0 < count) (before after : Board) where
 
 -- what each reached board keeps
 pub record Ordered (count : ℕ) (b : Board) : Type 0 where
-  pub owes : OwesSignals b
+  pub currents : Currents b
   pub known : (h : ℕ) → (b.harts h).harts ≡ count
-  pub absent : (h : ℕ) → count ≤ h → row_of h (b.harts h) ≡ ends
+  pub idle : (h : ℕ) → count ≤ h → current_of (b.harts h) ≡ None
+  pub empty : (g : ℕ) → count ≤ g → b.queues g ≡ []
   pub counted : (v : ℕ) → Counted count b v
-  pub beyond : (g : ℕ) → count ≤ g → b.queues g ≡ []
 
-module _ (count : ℕ) (positive : 0 < count) (before after : Board) (J : Ordered count before) where
-  agreed : (h : ℕ) (by : ActorId) (s : Step) (r : Reply) (c : Carry) → by ≡ Hart h → IsStep count before after (made count positive before after by s r c) → HartAgrees h (before.harts h) s c
-  agreed h by s r c is happens =
-      (touched (is_hart h by) (HartAgrees h (before.harts h) s c) (hart_after (before.harts h) s r c) (before.harts h) (after.harts h)
-      (ap (is_hart h) is ∙ eq-eqb h h refl) (happens.actor h)).0
+module _ (count : ℕ) (positive : 0 < count) (before after : Board) (J : Ordered count before) (m : Made) (is : IsStep count before after m) where
+  pub there : (h : ℕ) → m.by ≡ Hart h → is_at_own m.step ≡ true → h < count
+  there h by own = own-there count before after J.currents J.idle J.empty h m by own is.components
 
-  pub hart-there : (h : ℕ) (s : Step) (c : Carry) → HartAgrees h (before.harts h) s c → h < count
-  hart-there h s c ok =
-      let there : (h < count) ⊎ (count ≤ h) = cases_lt h count in
-      elim there [ inl l ↦ l | inr g ↦ absurd (none-made h (before.harts h) s c (J.absent h g) ok) ]
+  asks : (h : ℕ) → m.by ≡ Hart h → (now : Option ℕ) × Asks count now m.step m.carry
+  asks h by =
+      let agreed =
+      touched (is_hart h m.by) (HartAgrees h (before.harts h) m.step m.carry) (hart_after (before.harts h) m.step m.reply m.carry) (before.harts h) (after.harts h)
+      (ap (is_hart h) by ∙ eq-eqb h h refl) (is.actor h) in (
+        current_of (before.harts h),
+        subst (λ n. Asks n (current_of (before.harts h)) m.step m.carry) (J.known h)
+            (asked h (before.harts h) m.step m.carry (J.currents.owes h) agreed.0),
+      )
 
-  pub ordered-kept : (m : Made) → IsStep count before after m → Ordered count after
-  ordered-kept m is = record {
-    owes = owes-signals-kept count before after m is J.owes;
+  pub ordered-kept : Ordered count after
+  ordered-kept = record {
+    currents = currents-kept count before after m is J.currents;
     known = λ h. hart-step count before after m is h (λ hart. hart.harts ≡ count) (λ t ok. harts-same (before.harts h) m.step m.reply m.carry ∙ J.known h) (λ t. J.known h);
-    absent = λ h out.
-        hart-step count before after m is h (λ hart. row_of h hart ≡ ends) (λ t ok. absurd (none-made h (before.harts h) m.step m.carry (J.absent h out) ok)) (λ t. J.absent h out);
-    beyond = λ g out. empty-kept count positive g out before after m is.components (λ h by. hart-there h m.step m.carry (agreed h m.by m.step m.reply m.carry by is)) (J.beyond g out);
-    counted = λ v.
-        step-kept count positive before after m.by m.step m.reply m.carry
-        (λ h by. hart-there h m.step m.carry (agreed h m.by m.step m.reply m.carry by is))
-        (λ h by. (
-          current_of (before.harts h),
-          subst (λ n. Asks n (current_of (before.harts h)) m.step m.carry) (J.known h)
-              (asked h (before.harts h) m.step m.carry (J.owes h) (agreed h m.by m.step m.reply m.carry by is)),
-        ))
-        is.components v (J.counted v);
+    idle = λ h out. idle-kept count h before after m is J.currents (J.empty h out) (J.idle h out);
+    empty = λ g out. empty-kept count positive g out before after m is.components there (J.empty g out);
+    counted = λ v. step-kept count positive before after m.by m.step m.reply m.carry there asks is.components v (J.counted v);
   }

@@ -1,5 +1,5 @@
 -- What a hart's own state says of the steps that it makes.
-use Rattle.std.proofs.Common.{◌≡◌, ℕ, zero, suc, Bool, true, false, ◌==◌, refl, ap, sym, ◌∙◌, subst, length, List, [], ◌∷◌, ◌++◌, if◌then◌else◌}
+use Rattle.std.proofs.Common.{◌≡◌, ℕ, zero, suc, Bool, true, false, ◌==◌, refl, ap, sym, ◌∙◌, length, List, [], ◌∷◌, ◌++◌, if◌then◌else◌}
 use Rattle.std.specs.Prelude.{Option, None, Some, Ok, option_map, ◌&&◌, not, ◌%◌, map}
 use Rattle.std.specs.List.{list_all, filter, range_with_len}
 use Rattle.hv_answer.specs.declared.reply.Outcome.{Outcome}
@@ -128,10 +128,6 @@ row-asks harts (runs current) now s c is fits = current-asks harts now s c curre
 
 pub asked : (n : ℕ) (hart : HartState) (s : Step) (c : Carry) → list_all is_signal hart.owed ≡ true → HartAgrees n hart s c → Asks hart.harts (current_of hart) s c
 asked n hart s c signals agreed = row-asks hart.harts (row_of n hart) (current_of hart) s c (owed-matches n hart hart.owed signals) agreed.0
-
--- a hart at its end makes no step
-pub none-made : (n : ℕ) (hart : HartState) (s : Step) (c : Carry) → row_of n hart ≡ ends → HartAgrees n hart s c → ⊥
-none-made n hart s c is agreed = subst (λ row. Fits hart.harts row s c) is agreed.0
 
 -- which VCPU a hart runs after a step
 abbrev pub switches : Step → Bool

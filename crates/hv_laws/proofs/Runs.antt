@@ -1,6 +1,6 @@
 -- What holds at the start of a run and is kept by each step holds at each board that it reaches.
 use Rattle.std.proofs.Common.{◌≡◌, ℕ, zero, suc, ◌<◌, Bool, true, false, ◌==◌, if◌then◌else◌, refl, ap, sym, ◌∙◌, subst, arith, eqb-true, eq-eqb, List, [], ◌∷◌}
-use Rattle.std.specs.Prelude.{Some, Ok, not}
+use Rattle.std.specs.Prelude.{option_map, Some, Ok, not}
 use Rattle.std.specs.List.{list_all, list_any, range_with_len}
 use Rattle.hv_answer.specs.declared.reply.Reply.{Reply}
 use Rattle.hv_answer.specs.declared.reply.Reply.TheVariants as reply
@@ -12,7 +12,6 @@ use Rattle.hv_queue.specs.Queue.{weigh, count_in, head_of}
 use Rattle.hv_rules.specs.Carry.{Carry}
 use Rattle.hv_event.specs.declared.event.CellId.TheVariants.{Queue, Vcpu}
 use Rattle.hv_rules.specs.Footprint.{components, reached}
-use Rattle.hv_rules.specs.Hart.{HartAgrees, hart_after}
 use Rattle.hv_rules.specs.Vcpu.{VcpuAgrees, runs_on, dispatched}
 use Rattle.hv_step.specs.declared.step.Step.{Step}
 use Rattle.hv_step.specs.declared.step.Step.TheVariants as step
@@ -22,12 +21,12 @@ use Rattle.hv_vcpu.specs.declared.moves.Move.TheVariants as move
 use Rattle.hv_laws.specs.Board.{Board, Made, IsStep, is_vcpu}
 use Rattle.hv_laws.specs.Run.{IsStart, IsRun, IsReached}
 use Rattle.hv_laws.specs.Laws.{current_of, vcpu_run, StepsAreOfTheCurrent, is_ready, one_if, RunningIsCurrent, RunsApart, ReadyIsQueued, DispatchIsNotRefused}
-use Rattle.hv_laws.proofs.Current.{RunsCurrent, OwesSignals, some-same, runs-current-kept, owes-signals-kept, vcpu-touched}
-use Rattle.hv_laws.proofs.Frame.{touched, or-true}
-use Rattle.hv_laws.proofs.Ready.{Ordered, ordered-kept, hart-there}
+use Rattle.hv_laws.proofs.Current.{Currents, currents-kept, some-same}
+use Rattle.hv_laws.proofs.Frame.{or-true}
+use Rattle.hv_laws.proofs.Ready.{Ordered, ordered-kept, there}
 use Rattle.hv_laws.proofs.Rows.{is_signal}
-use Rattle.hv_laws.proofs.States.{running-same}
-use Rattle.hv_laws.proofs.Steps.{queue-touched, past-queues}
+use Rattle.hv_laws.proofs.States.{runs-here, running-same}
+use Rattle.hv_laws.proofs.Steps.{queue-touched, vcpu-touched, past-queues}
 use Rattle.hv_laws.proofs.Sums.{sum-none, sum-part}
 use Rattle.hv_laws.proofs.Weights.{valued, head-stands}
 use Rattle.hv_laws.proofs.Worths.{worth-none}
@@ -47,15 +46,14 @@ start-running : (count : ℕ) (b : Board) → IsStart count b → (v h : ℕ) �
 start-running count b is zero h run = let r = is.orphan in cc
 start-running count b is (suc v) h run = let r = ap (λ x. x.state) (is.others v) in cc
 
-record Currents (b : Board) : Type 0 where
-  runs : RunsCurrent b
-  owes : OwesSignals b
+start-currents : (count : ℕ) (b : Board) → IsStart count b → Currents b
+start-currents count b is = record {
+  runs = λ v h run. absurd (start-running count b is v h run);
+  owes = λ h. ap (λ owed. list_all is_signal owed) (is.nothing_owed h);
+}
 
 currents-reached : (count : ℕ) (b : Board) → IsReached count b → Currents b
-currents-reached count =
-    reached-keeps count Currents
-    (λ b is. record { runs = λ v h run. absurd (start-running count b is v h run); owes = λ h. ap (λ owed. list_all is_signal owed) (is.nothing_owed h) })
-    (λ b a m is c. record { runs = runs-current-kept count b a m is c.runs c.owes; owes = owes-signals-kept count b a m is c.owes })
+currents-reached count = reached-keeps count Currents (start-currents count) (λ b a m is J. currents-kept count b a m is J)
 
 pub running-is-current : RunningIsCurrent
 running-is-current count b is v h run = (currents-reached count b is).runs v h run
@@ -81,16 +79,16 @@ start-not-ready count b is (suc v) = ap (λ x. is_ready x.state) (is.others v)
 
 start-ordered : (count : ℕ) (b : Board) → IsStart count b → Ordered count b
 start-ordered count b is = record {
-  owes = λ h. ap (λ owed. list_all is_signal owed) (is.nothing_owed h);
+  currents = start-currents count b is;
   known = is.known;
-  absent = is.absent;
-  beyond = λ g out. is.queues g;
+  idle = λ h out. ap (λ now. option_map (λ current. current.vcpu) now) (is.free h);
+  empty = λ g out. is.queues g;
   counted = λ v f.
       sum-none count (λ g. weigh (valued v f) (b.queues g)) (λ g l. ap (weigh (valued v f)) (is.queues g)) ∙ sym (worth-none f (b.vcpus v) (start-not-ready count b is v));
 }
 
 ordered-reached : (count : ℕ) → 0 < count → (b : Board) → IsReached count b → Ordered count b
-ordered-reached count positive = reached-keeps count (Ordered count) (start-ordered count) (λ b a m is o. ordered-kept count positive b a o m is)
+ordered-reached count positive = reached-keeps count (Ordered count) (start-ordered count) (λ b a m is J. ordered-kept count positive b a J m is)
 
 own-none : (b : Bool) (p : ℕ) → (if b then one_if (not (p == p)) else 0) ≡ 0
 own-none true p = rw (eq-eqb p p refl) refl
@@ -104,7 +102,7 @@ ready-is-queued count b positive is v =
     record {
       once = counted (λ p. 1);
       own_priority = counted (λ p. one_if (not (p == x.plan.priority))) ∙ own-none (is_ready x.state) x.plan.priority;
-      no_other = λ g out. ap (count_in v) (ordered.beyond g out);
+      no_other = λ g out. ap (count_in v) (ordered.empty g out);
     }
 
 -- a VCPU that stands in a queue is ready
@@ -126,17 +124,15 @@ standing-ready count b o g v l head =
 dispatch-answer : (count : ℕ) (positive : 0 < count) (b a : Board) (by : ActorId) (vcpu : ℕ) (r : Reply) (c : Carry) → Ordered count b
     → IsStep count b a (record { by = by; step = step.Dispatch (record { vcpu = vcpu }); reply = r; carry = c }) → r ≡ reply.Dispatch (Ok (b.vcpus vcpu).plan.slice)
 dispatch-answer count positive b a (Terminal t) vcpu r c o is =
-    let at = vcpu-touched count b a (record { by = Terminal t; step = step.Dispatch (record { vcpu = vcpu }); reply = r; carry = c }) is vcpu (or-true (vcpu == vcpu) false (eq-eqb vcpu vcpu refl)) in
+    let at = vcpu-touched (Vcpu vcpu ∷ []) b a (record { by = Terminal t; step = step.Dispatch (record { vcpu = vcpu }); reply = r; carry = c }) is.components vcpu (or-true (vcpu == vcpu) false (eq-eqb vcpu vcpu refl)) in
     absurd at.0
 dispatch-answer count positive b a (Hart h) vcpu r c o is =
     let s : Step = step.Dispatch (record { vcpu = vcpu }) in
     let m : Made = record { by = Hart h; step = s; reply = r; carry = c } in
     let cs = Queue h ∷ Vcpu vcpu ∷ [] in
-    let at = vcpu-touched count b a m is vcpu (or-true (vcpu == vcpu) false (eq-eqb vcpu vcpu refl)) in
+    let at = vcpu-touched cs b a m is.components vcpu (or-true (vcpu == vcpu) false (eq-eqb vcpu vcpu refl)) in
     let here = queue-touched cs b a m is.components h (or-true (h == h) false (eq-eqb h h refl)) in
-    let agreed = (touched (h == h) (HartAgrees h (b.harts h) s c) (hart_after (b.harts h) s r c) (b.harts h) (a.harts h) (eq-eqb h h refl) (is.actor h)).0 in
-    let there = hart-there count positive b a o h s c agreed in
-    let ready = standing-ready count b o h vcpu there here.0 in
+    let ready = standing-ready count b o h vcpu (there count positive b a o m is h refl refl) here.0 in
     at.0 ∙ ap (λ x. reply.Dispatch (dispatched (b.vcpus vcpu).plan.slice (led (move.Dispatch h) x))) ready
 
 pub dispatch-is-not-refused : DispatchIsNotRefused
@@ -171,12 +167,11 @@ run-agreed by x (step.Balance s) r c v is ok = ok
 run-agreed by x _ r c v is ok = absurd (cc)
 
 runs-by : (by : ActorId) (s : State) → runs_on by s ≡ true → (h : ℕ) × (by ≡ Hart h) × (s ≡ Running h)
-runs-by (Hart h) (Running g) is = (h, refl, ap Running (sym (eqb-true h g is)))
-runs-by (Hart h) _ is = absurd (cc)
+runs-by (Hart h) s is = (h, refl, runs-here h s is)
 runs-by (Terminal t) s is = absurd (cc)
 
 pub steps-are-of-the-current : StepsAreOfTheCurrent
 steps-are-of-the-current count b next made v reached is runs =
-    let at = vcpu-touched count b next made is v (run-touched count made.by made.step made.reply made.carry v runs) in
+    let at = vcpu-touched (components count made.by made.step made.reply made.carry) b next made is.components v (run-touched count made.by made.step made.reply made.carry v runs) in
     let by = runs-by made.by (b.vcpus v).state (run-agreed made.by (b.vcpus v) made.step made.reply made.carry v runs at.0) in
     (by.0, by.1, by.2, running-is-current count b reached v by.0 by.2)

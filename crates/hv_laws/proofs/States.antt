@@ -1,5 +1,5 @@
 -- What steps make of a VCPU's state: which of them lead to one that runs.
-use Rattle.std.proofs.Common.{◌≡◌, ℕ, Bool, true, false, ◌⊎◌, inl, inr, refl, eq-eqb, if◌then◌else◌}
+use Rattle.std.proofs.Common.{◌≡◌, ℕ, Bool, true, false, ◌⊎◌, inl, inr, refl, eq-eqb, if◌then◌else◌, eqb-true, ap, sym}
 use Rattle.std.specs.Prelude.{Option, None, Some, Ok}
 use Rattle.hv_answer.specs.declared.reply.Outcome.TheVariants as outcome
 use Rattle.hv_answer.specs.declared.reply.Reply.{Reply}
@@ -22,6 +22,10 @@ use Rattle.hv_vcpu.specs.declared.moves.Move.TheVariants as move
 
 pub runs-there : (h : ℕ) (x : State) → x ≡ Running h → runs_on (Hart h) x ≡ true
 runs-there h x is = rw is (eq-eqb h h refl)
+
+pub runs-here : (h : ℕ) (x : State) → runs_on (Hart h) x ≡ true → x ≡ Running h
+runs-here h (Running g) is = ap Running (sym (eqb-true h g is))
+runs-here h _ is = absurd (cc)
 
 pub running-same : (x : State) (g h : ℕ) → x ≡ Running g → x ≡ Running h → g ≡ h
 running-same x g h p q = cc

@@ -1,12 +1,11 @@
 -- Runs of a board, step by step from its start.
-use Rattle.std.specs.Prelude.{◌≡◌, ℕ, suc, ◌≤◌, List, [], ◌∷◌, None}
+use Rattle.std.specs.Prelude.{◌≡◌, ℕ, suc, List, [], ◌∷◌, None}
 use Rattle.hv_kinds.specs.declared.state.State.TheVariants as state
-use Rattle.hv_rules.specs.Hart.{row_of, ends}
 use Rattle.hv_vcpu.specs.Vcpu.{unknown}
 use Rattle.hv_laws.specs.Board.{Board, Made, IsStep, board_after}
 
 -- A board at its start: no queue has an entry, the orphan VCPU is in reset and no other is there, no hart runs a VCPU or
--- owes a step, each knows how many there are, and one that isn't there makes no step.
+-- owes a step, and each knows how many there are.
 pub record IsStart (count : ℕ) (board : Board) : Type 0 where
   pub queues : (g : ℕ) → board.queues g ≡ []
   pub orphan : (board.vcpus 0).state ≡ state.Reset
@@ -14,7 +13,6 @@ pub record IsStart (count : ℕ) (board : Board) : Type 0 where
   pub free : (h : ℕ) → (board.harts h).current ≡ None
   pub nothing_owed : (h : ℕ) → (board.harts h).owed ≡ []
   pub known : (h : ℕ) → (board.harts h).harts ≡ count
-  pub absent : (h : ℕ) → count ≤ h → row_of h (board.harts h) ≡ ends
 
 -- Steps that lead from one board to another.
 abbrev pub IsRun : (count : ℕ) → (from : Board) → List Made → (to : Board) → Type 0
