@@ -56,7 +56,7 @@ pending-matches : (n : ℕ) (hart : HartState) (pending : Option (Pending × Gen
 pending-matches n hart None = turn-matches n hart hart.left
 pending-matches n hart (Some pending) = waits-matches hart.current pending.0 pending.1
 
-first-signal : (a b : Bool) → (a && b) ≡ true → a ≡ true
+pub first-signal : (a b : Bool) → (a && b) ≡ true → a ≡ true
 first-signal true b is = refl
 first-signal false b is = absurd (cc)
 

@@ -1,6 +1,6 @@
 -- What holds at the start of a run and is kept by each step holds at each board that it reaches.
 use Rattle.std.proofs.Common.{◌≡◌, ℕ, zero, suc, ◌<◌, Bool, true, false, ◌==◌, if◌then◌else◌, refl, ap, sym, ◌∙◌, subst, arith, eqb-true, eq-eqb, List, [], ◌∷◌}
-use Rattle.std.specs.Prelude.{option_map, Some, Ok, not}
+use Rattle.std.specs.Prelude.{option_map, Option, None, Some, Ok, not}
 use Rattle.std.specs.List.{list_all, list_any, range_with_len}
 use Rattle.hv_answer.specs.declared.reply.Reply.{Reply}
 use Rattle.hv_answer.specs.declared.reply.Reply.TheVariants as reply
@@ -20,11 +20,13 @@ use Rattle.hv_vcpu.specs.Vcpu.{VcpuValue}
 use Rattle.hv_vcpu.specs.declared.moves.Move.TheVariants as move
 use Rattle.hv_laws.specs.Board.{Board, Made, IsStep, is_vcpu}
 use Rattle.hv_laws.specs.Run.{IsStart, IsRun, IsReached}
-use Rattle.hv_laws.specs.Laws.{current_of, vcpu_run, StepsAreOfTheCurrent, is_ready, one_if, RunningIsCurrent, RunsApart, ReadyIsQueued, DispatchIsNotRefused}
-use Rattle.hv_laws.proofs.Current.{Currents, currents-kept, some-same}
+use Rattle.hv_laws.specs.Laws.{IsWithinItsSlice, HartsAreWithinTheirSlices, current_of, vcpu_run, StepsAreOfTheCurrent, is_ready, one_if, RunningIsCurrent, RunsApart, ReadyIsQueued, DispatchIsNotRefused}
+use Rattle.hv_laws.proofs.Current.{Currents, currents-kept, hart-step, some-same}
 use Rattle.hv_laws.proofs.Frame.{or-true}
 use Rattle.hv_laws.proofs.Ready.{Ordered, ordered-kept, there}
 use Rattle.hv_laws.proofs.Rows.{is_signal}
+use Rattle.hv_laws.proofs.Slices.{within-kept}
+use Rattle.hv_rules.specs.Hart.{Current}
 use Rattle.hv_laws.proofs.States.{runs-here, running-same}
 use Rattle.hv_laws.proofs.Steps.{queue-touched, vcpu-touched, past-queues}
 use Rattle.hv_laws.proofs.Sums.{sum-none, sum-part}
@@ -71,6 +73,30 @@ runs-apart count b is v w g h p q =
     (λ same.
     eq-eqb v w (some-same (current_of (b.harts h)) v w
     (running-is-current count b is v h (p ∙ ap Running (eqb-true g h same))) (running-is-current count b is w h q)))
+
+record Slices (b : Board) : Type 0 where
+  currents : Currents b
+  within : (h : ℕ) → IsWithinItsSlice (b.harts h)
+
+start-slices : (count : ℕ) (b : Board) → IsStart count b → Slices b
+start-slices count b is = record {
+  currents = start-currents count b is;
+  within = λ h. record { pending = λ _. is.nothing_pending h; used = λ current now. absurd (none-some (b.harts h).current current (is.free h) now) };
+}
+  where
+    none-some : (now : Option Current) (k : Current) → now ≡ None → now ≡ Some k → ⊥
+    none-some now k p q = cc
+
+slices-reached : (count : ℕ) (b : Board) → IsReached count b → Slices b
+slices-reached count =
+    reached-keeps count Slices (start-slices count)
+    (λ b a m is J. record {
+      currents = currents-kept count b a m is J.currents;
+      within = λ h. hart-step count b a m is h IsWithinItsSlice (λ t ok. within-kept h (b.harts h) (J.currents.owes h) (J.within h) m.step m.reply m.carry ok) (λ t. J.within h);
+    })
+
+pub harts-are-within : HartsAreWithinTheirSlices
+harts-are-within count b is h = (slices-reached count b is).within h
 
 -- at the start no VCPU is ready, and no queue has an entry
 start-not-ready : (count : ℕ) (b : Board) → IsStart count b → (v : ℕ) → is_ready (b.vcpus v).state ≡ false

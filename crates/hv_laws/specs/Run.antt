@@ -4,13 +4,14 @@ use Rattle.hv_kinds.specs.declared.state.State.TheVariants as state
 use Rattle.hv_vcpu.specs.Vcpu.{unknown}
 use Rattle.hv_laws.specs.Board.{Board, Made, IsStep, board_after}
 
--- A board at its start: no queue has an entry, the orphan VCPU is in reset and no other is there, no hart runs a VCPU or
--- owes a step, and each knows how many there are.
+-- A board at its start: no queue has an entry, the orphan VCPU is in reset and no other is there, no hart runs a VCPU,
+-- waits for an access or owes a step, and each knows how many there are.
 pub record IsStart (count : ℕ) (board : Board) : Type 0 where
   pub queues : (g : ℕ) → board.queues g ≡ []
   pub orphan : (board.vcpus 0).state ≡ state.Reset
   pub others : (v : ℕ) → board.vcpus (suc v) ≡ unknown
   pub free : (h : ℕ) → (board.harts h).current ≡ None
+  pub nothing_pending : (h : ℕ) → (board.harts h).pending ≡ None
   pub nothing_owed : (h : ℕ) → (board.harts h).owed ≡ []
   pub known : (h : ℕ) → (board.harts h).harts ≡ count
 

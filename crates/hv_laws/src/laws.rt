@@ -3,7 +3,11 @@ ghost use Rattle.std.specs.Prelude.{◌≡◌, false, None, Some};
 ghost use Rattle.hv_kinds.specs.declared.state.State.TheVariants as state;
 ghost use Rattle.hv_laws.specs.Example as example;
 ghost use Rattle.hv_laws.specs.Laws.{current_of, RunningIsCurrent, RunsApart, StepsAreOfTheCurrent};
-ghost use Rattle.hv_laws.specs.Laws.{ReadyIsQueued, DispatchIsNotRefused};
+ghost use Rattle.hv_laws.specs.Laws.{
+  ReadyIsQueued,
+  DispatchIsNotRefused,
+  HartsAreWithinTheirSlices,
+};
 ghost use Rattle.hv_laws.specs.Run.{IsStart, IsRun, board_at};
 
 /// A run of a board with two harts, and what two of its boards hold.
@@ -41,4 +45,9 @@ pub fn ready_vcpus_are_queued()
 /// A dispatch of a queue's head is not refused.
 pub fn no_dispatch_is_refused()
     ensures { DispatchIsNotRefused }
+{}
+
+/// A hart has a pending access only with a VCPU, which used no more turns than its slice has.
+pub fn harts_are_within_their_slices()
+    ensures { HartsAreWithinTheirSlices }
 {}
