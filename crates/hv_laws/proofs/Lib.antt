@@ -11,4 +11,5 @@ pub mod Beyond
 pub mod Ready
 pub mod Slices
 pub mod Runs
+pub mod Queued
 pub mod Example

@@ -1,6 +1,6 @@
 -- What holds at the start of a run and is kept by each step holds at each board that it reaches.
-use Rattle.std.proofs.Common.{◌≡◌, ℕ, zero, suc, ◌<◌, Bool, true, false, ◌==◌, if◌then◌else◌, refl, ap, sym, ◌∙◌, subst, arith, eqb-true, eq-eqb, List, [], ◌∷◌}
-use Rattle.std.specs.Prelude.{option_map, Option, None, Some, Ok, not}
+use Rattle.std.proofs.Common.{◌≡◌, ℕ, zero, suc, ◌<◌, Bool, true, false, ◌==◌, refl, ap, sym, ◌∙◌, subst, arith, eqb-true, eq-eqb, List, [], ◌∷◌}
+use Rattle.std.specs.Prelude.{option_map, Option, None, Some, Ok}
 use Rattle.std.specs.List.{list_all, list_any, range_with_len}
 use Rattle.hv_answer.specs.declared.reply.Reply.{Reply}
 use Rattle.hv_answer.specs.declared.reply.Reply.TheVariants as reply
@@ -20,7 +20,7 @@ use Rattle.hv_vcpu.specs.Vcpu.{VcpuValue}
 use Rattle.hv_vcpu.specs.declared.moves.Move.TheVariants as move
 use Rattle.hv_laws.specs.Board.{Board, Made, IsStep, is_vcpu}
 use Rattle.hv_laws.specs.Run.{IsStart, IsRun, IsReached}
-use Rattle.hv_laws.specs.Laws.{IsWithinItsSlice, HartsAreWithinTheirSlices, current_of, vcpu_run, StepsAreOfTheCurrent, is_ready, one_if, RunningIsCurrent, RunsApart, ReadyIsQueued, DispatchIsNotRefused}
+use Rattle.hv_laws.specs.Laws.{IsWithinItsSlice, HartsAreWithinTheirSlices, current_of, vcpu_run, StepsAreOfTheCurrent, is_ready, one_if, RunningIsCurrent, RunsApart, DispatchIsNotRefused}
 use Rattle.hv_laws.proofs.Current.{Currents, currents-kept, hart-step, some-same}
 use Rattle.hv_laws.proofs.Frame.{or-true}
 use Rattle.hv_laws.proofs.Ready.{Ordered, ordered-kept, there}
@@ -113,30 +113,15 @@ start-ordered count b is = record {
       sum-none count (λ g. weigh (valued v f) (b.queues g)) (λ g l. ap (weigh (valued v f)) (is.queues g)) ∙ sym (worth-none f (b.vcpus v) (start-not-ready count b is v));
 }
 
-ordered-reached : (count : ℕ) → 0 < count → (b : Board) → IsReached count b → Ordered count b
+pub ordered-reached : (count : ℕ) → 0 < count → (b : Board) → IsReached count b → Ordered count b
 ordered-reached count positive = reached-keeps count (Ordered count) (start-ordered count) (λ b a m is J. ordered-kept count positive b a J m is)
 
-own-none : (b : Bool) (p : ℕ) → (if b then one_if (not (p == p)) else 0) ≡ 0
-own-none true p = rw (eq-eqb p p refl) refl
-own-none false p = refl
-
-pub ready-is-queued : ReadyIsQueued
-ready-is-queued count b positive is v =
-    let ordered = ordered-reached count positive b is in
-    let counted = ordered.counted v in
-    let x = b.vcpus v in
-    record {
-      once = counted (λ p. 1);
-      own_priority = counted (λ p. one_if (not (p == x.plan.priority))) ∙ own-none (is_ready x.state) x.plan.priority;
-      no_other = λ g out. ap (count_in v) (ordered.empty g out);
-    }
-
 -- a VCPU that stands in a queue is ready
-one-if-true : (b : Bool) → 0 < one_if b → b ≡ true
+pub one-if-true : (b : Bool) → 0 < one_if b → b ≡ true
 one-if-true true l = refl
 one-if-true false l = absurd (omega arith)
 
-ready-is : (s : State) → is_ready s ≡ true → s ≡ Ready
+pub ready-is : (s : State) → is_ready s ≡ true → s ≡ Ready
 ready-is Ready is = refl
 ready-is _ is = absurd (cc)
 

@@ -1,5 +1,6 @@
 -- The laws of every run: which VCPUs run, and which stand in queues.
 use Rattle.std.specs.Prelude.{◌≡◌, ℕ, zero, suc, ◌+◌, ◌<◌, ◌≤◌, ◌==◌, not, Bool, true, false, if◌then◌else◌, Option, None, Some, Ok, option_map}
+use Rattle.std.specs.List.{All}
 use Rattle.hv_answer.specs.declared.reply.Reply.TheVariants as reply
 use Rattle.hv_event.specs.declared.event.ActorId.TheVariants.{Hart}
 use Rattle.hv_kinds.specs.declared.state.State.{State}
@@ -73,6 +74,24 @@ pub record StandsWhereReady (count : ℕ) (board : Board) (v : ℕ) : Type 0 whe
 
 abbrev pub ReadyIsQueued : Type 0
 ReadyIsQueued = (count : ℕ) (board : Board) → 0 < count → IsReached count board → (v : ℕ) → StandsWhereReady count board v
+
+-- In other words: each entry of a queue is of a VCPU that is ready, with its priority.
+pub record IsOfReady (board : Board) (entry : QueueEntry) : Type 0 where
+  pub ready : (board.vcpus entry.vcpu).state ≡ Ready
+  pub priority : entry.priority ≡ (board.vcpus entry.vcpu).plan.priority
+
+abbrev pub EntriesAreOfReady : Type 0
+EntriesAreOfReady = (count : ℕ) (board : Board) → 0 < count → IsReached count board → (g : ℕ) → All (IsOfReady board) (board.queues g)
+
+-- And a VCPU that is ready stands in the queue of one hart, once, and in no other queue.
+pub record IsInOne (count : ℕ) (board : Board) (v : ℕ) : Type 0 where
+  pub hart : ℕ
+  pub there : hart < count
+  pub once : count_in v (board.queues hart) ≡ 1
+  pub no_other : (g : ℕ) → (g == hart) ≡ false → count_in v (board.queues g) ≡ 0
+
+abbrev pub ReadyIsInOneQueue : Type 0
+ReadyIsInOneQueue = (count : ℕ) (board : Board) → 0 < count → IsReached count board → (v : ℕ) → (board.vcpus v).state ≡ Ready → IsInOne count board v
 
 -- What a hart dispatches is ready, so that it gets its slice and no refusal.
 abbrev pub DispatchIsNotRefused : Type 0

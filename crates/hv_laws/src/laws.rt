@@ -3,11 +3,8 @@ ghost use Rattle.std.specs.Prelude.{◌≡◌, false, None, Some};
 ghost use Rattle.hv_kinds.specs.declared.state.State.TheVariants as state;
 ghost use Rattle.hv_laws.specs.Example as example;
 ghost use Rattle.hv_laws.specs.Laws.{current_of, RunningIsCurrent, RunsApart, StepsAreOfTheCurrent};
-ghost use Rattle.hv_laws.specs.Laws.{
-  ReadyIsQueued,
-  DispatchIsNotRefused,
-  HartsAreWithinTheirSlices,
-};
+ghost use Rattle.hv_laws.specs.Laws.{ReadyIsQueued, EntriesAreOfReady, ReadyIsInOneQueue};
+ghost use Rattle.hv_laws.specs.Laws.{DispatchIsNotRefused, HartsAreWithinTheirSlices};
 ghost use Rattle.hv_laws.specs.Run.{IsStart, IsRun, board_at};
 
 /// A run of a board with two harts, and what two of its boards hold.
@@ -39,7 +36,9 @@ pub fn steps_are_of_the_current_vcpu()
 /// A VCPU stands in the queues of all harts together once where it is ready, and else nowhere, and
 /// with its own priority.
 pub fn ready_vcpus_are_queued()
-    ensures { ReadyIsQueued }
+    ensures once { ReadyIsQueued }
+    ensures entries { EntriesAreOfReady }
+    ensures one_queue { ReadyIsInOneQueue }
 {}
 
 /// A dispatch of a queue's head is not refused.
