@@ -37,7 +37,12 @@ abbrev pub made : ActorId → Step → Reply → Carry → Made
 made by s r c = record { by = by; step = s; reply = r; carry = c }
 
 abbrev pub kick : Made
-kick = made (Terminal 0) (step.Kick (record { vcpu = 0; guest = None })) (reply.Kick (Ok tt)) (record nothing { priority = Some 3 })
+kick =
+    made
+    (Terminal 0)
+    (step.Kick (record { vcpu = 0; guest = None }))
+    (reply.Kick (Ok tt))
+    (record nothing { priority = Some 3 })
 
 abbrev pub tick : (slot : ℕ) → Made
 tick slot = made (Hart 0) (step.Tick (record { slot = slot })) (reply.Tick None) nothing

@@ -42,7 +42,8 @@ vcpu_run _ = None
 -- Such a step is made by the hart on which the VCPU runs, and which runs it.
 abbrev pub StepsAreOfTheCurrent : Type 0
 StepsAreOfTheCurrent =
-    (count : ℕ) (board next : Board) (made : Made) (v : ℕ) → IsReached count board → IsStep count board next made → vcpu_run made.step ≡ Some v
+    (count : ℕ) (board next : Board) (made : Made) (v : ℕ)
+    → IsReached count board → IsStep count board next made → vcpu_run made.step ≡ Some v
     → (h : ℕ) × (made.by ≡ Hart h) × ((board.vcpus v).state ≡ Running h) × (current_of (board.harts h) ≡ Some v)
 
 -- A number for each of the first ones, added up.
@@ -73,7 +74,8 @@ pub record StandsWhereReady (count : ℕ) (board : Board) (v : ℕ) : Type 0 whe
   pub no_other : (g : ℕ) → count ≤ g → count_in v (board.queues g) ≡ 0
 
 abbrev pub ReadyIsQueued : Type 0
-ReadyIsQueued = (count : ℕ) (board : Board) → 0 < count → IsReached count board → (v : ℕ) → StandsWhereReady count board v
+ReadyIsQueued =
+    (count : ℕ) (board : Board) → 0 < count → IsReached count board → (v : ℕ) → StandsWhereReady count board v
 
 -- In other words: each entry of a queue is of a VCPU that is ready, with its priority.
 pub record IsOfReady (board : Board) (entry : QueueEntry) : Type 0 where
@@ -81,7 +83,9 @@ pub record IsOfReady (board : Board) (entry : QueueEntry) : Type 0 where
   pub priority : entry.priority ≡ (board.vcpus entry.vcpu).plan.priority
 
 abbrev pub EntriesAreOfReady : Type 0
-EntriesAreOfReady = (count : ℕ) (board : Board) → 0 < count → IsReached count board → (g : ℕ) → All (IsOfReady board) (board.queues g)
+EntriesAreOfReady =
+    (count : ℕ) (board : Board) → 0 < count → IsReached count board → (g : ℕ)
+    → All (IsOfReady board) (board.queues g)
 
 -- And a VCPU that is ready stands in the queue of one hart, once, and in no other queue.
 pub record IsInOne (count : ℕ) (board : Board) (v : ℕ) : Type 0 where
@@ -91,13 +95,17 @@ pub record IsInOne (count : ℕ) (board : Board) (v : ℕ) : Type 0 where
   pub no_other : (g : ℕ) → (g == hart) ≡ false → count_in v (board.queues g) ≡ 0
 
 abbrev pub ReadyIsInOneQueue : Type 0
-ReadyIsInOneQueue = (count : ℕ) (board : Board) → 0 < count → IsReached count board → (v : ℕ) → (board.vcpus v).state ≡ Ready → IsInOne count board v
+ReadyIsInOneQueue =
+    (count : ℕ) (board : Board) → 0 < count → IsReached count board → (v : ℕ)
+    → (board.vcpus v).state ≡ Ready → IsInOne count board v
 
 -- What a hart dispatches is ready, so that it gets its slice and no refusal.
 abbrev pub DispatchIsNotRefused : Type 0
 DispatchIsNotRefused =
-    (count : ℕ) (board next : Board) (made : Made) (vcpu : ℕ) → 0 < count → IsReached count board → IsStep count board next made
-    → made.step ≡ step.Dispatch (record { vcpu = vcpu }) → made.reply ≡ reply.Dispatch (Ok (board.vcpus vcpu).plan.slice)
+    (count : ℕ) (board next : Board) (made : Made) (vcpu : ℕ)
+    → 0 < count → IsReached count board → IsStep count board next made
+    → made.step ≡ step.Dispatch (record { vcpu = vcpu })
+    → made.reply ≡ reply.Dispatch (Ok (board.vcpus vcpu).plan.slice)
 
 -- A hart has a pending access only with a VCPU, and that used no more turns than its slice has.
 pub record IsWithinItsSlice (hart : HartState) : Type 0 where
@@ -105,4 +113,5 @@ pub record IsWithinItsSlice (hart : HartState) : Type 0 where
   pub used : (current : Current) → hart.current ≡ Some current → current.used ≤ current.slice
 
 abbrev pub HartsAreWithinTheirSlices : Type 0
-HartsAreWithinTheirSlices = (count : ℕ) (board : Board) → IsReached count board → (h : ℕ) → IsWithinItsSlice (board.harts h)
+HartsAreWithinTheirSlices =
+    (count : ℕ) (board : Board) → IsReached count board → (h : ℕ) → IsWithinItsSlice (board.harts h)
