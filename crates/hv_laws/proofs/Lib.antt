@@ -13,3 +13,4 @@ pub mod Slices
 pub mod Runs
 pub mod Queued
 pub mod Example
+pub mod Legal

@@ -201,7 +201,7 @@ fetched hart generation outcome.Access c = record (with_used hart) { pending = p
 fetched hart generation outcome.Wait c = turned (without_vcpu hart)
 fetched hart generation _ c = turned (with_used hart)
 
--- A fault of an instruction uses the slice as its fetch would have; a fault of a load or store is the end of the access.
+-- A fault of an instruction uses the slice as its fetch would have; a fault of a load or store ends the access.
 abbrev pub faulted : HartState → AccessKind → HartState
 faulted hart access.Execute = turned (with_used hart)
 faulted hart _ = turned (without_pending hart)

@@ -26,8 +26,8 @@ pub data Change : Type 0 where
   halt : Change
   reset : Change
 
--- What a line asks for: one step, which shows the generation that the directory gives where it is by guest, rests, a look at each VCPU of the board, the life or the end of a guest, or a change
--- of each of its VCPUs.
+-- What a line asks for: one step, which shows the generation that the directory gives where it is by guest; rests; a
+-- look at each VCPU of the board; the life or the end of a guest; or a change of each of its VCPUs.
 pub data Asked : Type 0 where
   once : (Option Generation → Step) → Asked
   rests : (count : ℕ) → Asked
