@@ -59,12 +59,12 @@ source_register source = if source == 0 then reserved else priority_of source
 -- The register at an offset, among those of so many contexts.
 abbrev pub plic_register : (contexts offset : ℕ) → PlicRegister
 plic_register contexts offset =
-    let sources = option_map source_register (index_at 0 4 32 offset) in
+    let priorities = option_map source_register (index_at 0 4 32 offset) in
     let pending = if offset == 0x1000 then Some pending_bits else None in
     let enables = option_map enable_of (index_at 0x2000 0x80 contexts offset) in
     let thresholds = option_map threshold_of (index_at 0x200000 0x1000 contexts offset) in
     let claims = option_map claim_complete (index_at 0x200004 0x1000 contexts offset) in
-    unwrap_or sources (unwrap_or pending (unwrap_or enables (unwrap_or thresholds (unwrap_or claims reserved))))
+    unwrap_or priorities (unwrap_or pending (unwrap_or enables (unwrap_or thresholds (unwrap_or claims reserved))))
 
 -- The register that an access reaches: only whole words are accessed.
 abbrev pub plic_register_of : PlicState → (offset size : ℕ) → Option PlicRegister

@@ -65,7 +65,7 @@ pub data TimerRegister : Type 0 where
   -- a place with no register, which reads 0 and isn't written
   unused : TimerRegister
 
--- The register at an offset, among those of so many contexts. Below 0x4000 registers have 4 bytes, and above 8.
+-- The register at an offset, among those of so many contexts. Below 0x4000 registers have 4 bytes, and from there on 8.
 abbrev pub timer_register : (contexts offset size : ℕ) → TimerRegister
 timer_register contexts offset size =
     let part = part_of offset size in

@@ -1,4 +1,5 @@
--- The serial port NS16550A, by its data sheet: eight registers of a byte, at offsets 0 to 7.
+-- The serial port NS16550A, by its data sheet: eight registers of a byte, at offsets 0 to 7. Modem lines, loopback, break
+-- and parity are left out: what is written to ask for them is kept and does nothing.
 -- A byte is sent as soon as it is written, and the time-out of received bytes has no delay.
 use Rattle.std.specs.Prelude.{ℕ, ◌+◌, ◌-◌, ◌/◌, ◌%◌, ◌^◌, Bool, true, false, not, ◌&&◌, ◌||◌, ◌==◌, nat_lt, nat_le, if◌then◌else◌, List, [], ◌∷◌, ◌++◌, length, drop, slice_index, Option, Some, None}
 use Rattle.hv_emu.specs.Access.{Access, load, store, Outcome, loaded, stored}

@@ -1,6 +1,6 @@
 -- Legal histories lead to boards that steps lead to.
-use Rattle.std.proofs.Common.{◌≡◌, ℕ, Bool, true, false, ◌||◌, inl, inr, ◌⊎◌, eqb, eqb-true, eq-eqb, List, [], ◌∷◌, ◌++◌, map, None, Some, Option, refl, ap, sym, subst, ◌∙◌}
-use Rattle.std.specs.List.{list_any, AllByRecursion}
+use Rattle.std.proofs.Common.{◌≡◌, ℕ, Bool, true, false, inl, inr, ◌⊎◌, eqb, eqb-true, eq-eqb, List, [], ◌∷◌, ◌++◌, map, None, Some, Option, refl, ap, sym, subst, ◌∙◌}
+use Rattle.std.specs.List.{list_any}
 use Rattle.hv_event.specs.declared.event.ActorId.{ActorId}
 use Rattle.hv_event.specs.declared.event.ActorId.TheVariants.{Hart, Terminal}
 use Rattle.hv_event.specs.declared.event.CellId.{CellId}
@@ -8,6 +8,8 @@ use Rattle.hv_event.specs.declared.event.CellId.TheVariants as component
 use Rattle.hv_event.specs.declared.event.Event.{Event}
 use Rattle.hv_machine.specs.Machine.{Machine, State, MayHappen, next_state, state_after, touches}
 use Rattle.hv_machine.specs.Machine.{IsRun as IsMachineRun}
+use Rattle.hv_machine.proofs.RunLemmas.{all-at}
+use Rattle.hv_model.proofs.BoardLemmas.{touch-actor}
 use Rattle.hv_model.specs.declared.entry.Entry.{Entry}
 use Rattle.hv_model.specs.Cell.{Component, Actor, same_cell, same_actor, same_component}
 use Rattle.hv_model.specs.Hart.{HartState}
@@ -23,16 +25,6 @@ use Rattle.hv_laws.specs.Run.{IsStart, IsRun, IsReached}
 -- the step of an entry
 abbrev pub made_of : Entry → Made
 made_of e = record { by = e.event.actor; step = e.event.step; reply = e.event.reply; carry = e.carry }
-
--- what holds of each element holds of one that is among them
-all-at : {X : Type 0} (same : X → X → Bool) (only : (x y : X) → same x y ≡ true → x ≡ y) (P : X → Type 0) (x : X) (ys : List X) → AllByRecursion P ys → list_any (same x) ys ≡ true → P x
-all-at same only P x [] h t = absurd (cc)
-all-at same only P x (y ∷ ys) h t =
-    let Goal : Bool → Type 0 = λ b. same x y ≡ b → (b || list_any (same x) ys) ≡ true → P x in
-    elim (same x y) as Goal [
-      | true ↦ λ is _. subst P (sym (only x y is)) h.0
-      | false ↦ λ _ rest. all-at same only P x ys h.1 rest
-    ] refl t
 
 -- a cell of a machine becomes what an event makes of it
 module _ (m : Machine) (s : State m) (e : m.Event) (may : MayHappen m s e) (x : m.Cell) where
@@ -76,22 +68,12 @@ vcpu-among : (n : ℕ) (cs : List CellId) → list_any (same_cell (Component (co
 vcpu-among n [] = refl
 vcpu-among n (c ∷ cs) = rw (vcpu-at n c) (rw (vcpu-among n cs) refl)
 
-no-component : (a : ActorId) (cs : List CellId) → list_any (same_cell (Actor a)) (map Component cs) ≡ false
-no-component a [] = refl
-no-component a (c ∷ cs) = no-component a cs
-
-or-false : (b : Bool) → (b || false) ≡ b
-or-false true = refl
-or-false false = refl
-
 hart-at : (n : ℕ) (a : ActorId) → same_actor (Hart n) a ≡ is_hart n a
 hart-at n (Hart h) = refl
 hart-at n (Terminal t) = refl
 
 hart-touched : (O : Origin) (e : Entry) (n : ℕ) → touches (machine O) (Actor (Hart n)) e ≡ is_hart n e.event.actor
-hart-touched O e n =
-    ap (λ b. same_actor (Hart n) e.event.actor || b) (no-component (Hart n) (components_of O.opening.harts e))
-    ∙ or-false (same_actor (Hart n) e.event.actor) ∙ hart-at n e.event.actor
+hart-touched O e n = touch-actor O e (Hart n) ∙ hart-at n e.event.actor
 
 -- the same by another test
 becomes-by : {A : Type 0} (b d : Bool) (P : Type 0) (changed before after : A) → b ≡ d → Becomes b P changed before after → Becomes d P changed before after

@@ -7,7 +7,7 @@ use Rattle.hv_machine.proofs.Lists.{all-filter, all-map, all-map2, all-unfilter,
 use Rattle.hv_machine.proofs.MergingLemmas.{all-touched, kept-later}
 
 -- a fact on each element of a list holds of one that is the same as some element
-all-at : {X : Type 0} (same : X → X → Bool) (only : (x y : X) → same x y ≡ true → x ≡ y) (P : X → Type 0) (x : X) (ys : List X) → AllByRecursion P ys → list_any (same x) ys ≡ true → P x
+pub all-at : {X : Type 0} (same : X → X → Bool) (only : (x y : X) → same x y ≡ true → x ≡ y) (P : X → Type 0) (x : X) (ys : List X) → AllByRecursion P ys → list_any (same x) ys ≡ true → P x
 all-at same only P x [] h t = absurd (cc)
 all-at same only P x (y ∷ ys) h t =
     let Goal : Bool → Type 0 = λ b. same x y ≡ b → (b || list_any (same x) ys) ≡ true → P x in

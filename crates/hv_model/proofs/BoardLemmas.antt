@@ -1,5 +1,5 @@
 -- A closed board's history is legal.
-use Rattle.std.proofs.Common.{◌≡◌, ◌≤◌, Bool, true, false, ◌||◌, List, [], ◌∷◌, ◌++◌, map, refl, ap, sym, subst}
+use Rattle.std.proofs.Common.{◌≡◌, ◌≤◌, Bool, true, false, ◌||◌, List, [], ◌∷◌, ◌++◌, map, refl, ap, sym, subst, ◌∙◌}
 use Rattle.std.specs.List.{AllByRecursion, list_any}
 use Rattle.hv_text.specs.declared.limits.TheConstants.{GREATEST_STAMP}
 use Rattle.hv_machine.specs.Machine.{touches, events_at, events_by, state_after}
@@ -19,9 +19,18 @@ use Rattle.hv_model.specs.Legal.{first, start, Legal, reached, own_at_start}
 use Rattle.hv_model.specs.Rounds.{RoundsAreLegal}
 use Rattle.hv_model.specs.Board.{ClosedBoardIsLegal}
 
+or-false : (b : Bool) → (b || false) ≡ b
+or-false true = refl
+or-false false = refl
+
 no-component : (a : ActorId) (cs : List CellId) → list_any (same_cell (Actor a)) (map Component cs) ≡ false
 no-component a [] = refl
 no-component a (c ∷ cs) = no-component a cs
+
+-- an event touches no actor but its own
+pub touch-actor : (O : Origin) (e : Entry) (a : ActorId) → touches (machine O) (Actor a) e ≡ same_actor a e.event.actor
+touch-actor O e a =
+    ap (λ b. same_actor a e.event.actor || b) (no-component a (components_of O.opening.harts e)) ∙ or-false (same_actor a e.event.actor)
 
 other-actor : (O : Origin) (e : Entry) (a : ActorId) → touches (machine O) (Actor a) e ≡ true → Actor a ≡ Actor e.event.actor
 other-actor O e a t =

@@ -8,7 +8,6 @@ use Rattle.hv_machine.specs.Phases.{IsTwoPart, IsTwoPartRun}
 use Rattle.hv_machine.proofs.Lists.{all-filter, filter-append, append-nothing}
 use Rattle.hv_machine.proofs.MergingLemmas.{own-first, all-by}
 use Rattle.hv_machine.proofs.PhasesLemmas.{two-part, began-of-two-part, same-end}
-use Rattle.hv_event.specs.declared.event.Event.{Event}
 use Rattle.hv_model.specs.Origin.{Origin}
 use Rattle.hv_model.specs.Cell.{Cell, is_actor, rank_of}
 use Rattle.hv_model.specs.Entry.{Entry}

@@ -1,6 +1,6 @@
 -- Legal and complete histories.
 use Rattle.std.specs.Option.{option_map, option_map_or}
-use Rattle.std.specs.Prelude.{◌≡◌, ℕ, zero, suc, None, replicate, slice_get, ◌+◌, ◌<◌, ◌≤◌, ◌^◌, max, length, List, [], ◌++◌, map, ◌==◌, if◌then◌else◌, ◌∷◌}
+use Rattle.std.specs.Prelude.{◌≡◌, ℕ, zero, suc, None, replicate, slice_get, ◌+◌, ◌<◌, ◌≤◌, max, length, List, [], ◌++◌, map, ◌==◌, if◌then◌else◌, ◌∷◌}
 use Rattle.std.specs.List.{AllByRecursion, range_with_len}
 use Rattle.hv_text.specs.declared.limits.TheConstants.{GREATEST_STAMP}
 use Rattle.hv_machine.specs.Machine.{State, state_after}

@@ -1,5 +1,5 @@
 -- A step of the board is a step of the abstract machine.
-use Rattle.std.proofs.Common.{◌≡◌, ◌≢◌, ℕ, ◌+◌, ◌<◌, Bool, true, false, ◌||◌, eqb, eq-eqb, eqb-true, List, [], ◌∷◌, map, refl, ap, sym, subst, ◌∙◌, arith}
+use Rattle.std.proofs.Common.{◌≡◌, ◌≢◌, ℕ, ◌+◌, ◌<◌, Bool, true, false, eqb, eq-eqb, eqb-true, List, [], ◌∷◌, map, refl, ap, sym, subst, ◌∙◌, arith}
 use Rattle.std.proofs.lemmas.Bool.{ne_eqb}
 use Rattle.std.specs.List.{AllByRecursion, list_any}
 use Rattle.hv_machine.specs.Machine.{Machine, State, cell_after, greatest, touches, next_state, MayHappen}
@@ -14,6 +14,7 @@ use Rattle.hv_model.specs.Origin.{Origin}
 use Rattle.hv_model.specs.Cell.{Cell, Component, Actor, same_cell, same_actor}
 use Rattle.hv_model.specs.Files.{FilesAgree, files_after}
 use Rattle.hv_model.specs.Terminal.{TerminalState, TerminalAgrees, terminal_after}
+use Rattle.hv_model.proofs.BoardLemmas.{touch-actor}
 use Rattle.hv_model.specs.Rules.{machine, components_of, IsAllowedAt}
 use Rattle.hv_rules.specs.Footprint.{components}
 use Rattle.hv_rounds.specs.declared.files.FileCell.{FileCell}
@@ -35,18 +36,6 @@ eqb-is u t e = eqb-true u t e
 
 eqb-apart : (u t : ℕ) → eqb u t ≡ false → u ≢ t
 eqb-apart u t e same = let there = eq-eqb u t same in absurd (cc)
-
-or-false : (b : Bool) → (b || false) ≡ b
-or-false true = refl
-or-false false = refl
-
-none-of : (a : ActorId) (cs : List CellId) → list_any (same_cell (Actor a)) (map Component cs) ≡ false
-none-of a [] = refl
-none-of a (c ∷ cs) = none-of a cs
-
--- an event touches no actor but its own
-touch-actor : (O : Origin) (e : Entry) (a : ActorId) → touches (machine O) (Actor a) e ≡ same_actor a e.event.actor
-touch-actor O e a = ap (λ b. same_actor a e.event.actor || b) (none-of a (components_of O.opening.harts e)) ∙ or-false (same_actor a e.event.actor)
 
 -- the components of an event if its step were this
 abbrev components_by : (harts : ℕ) → Entry → Step → List CellId

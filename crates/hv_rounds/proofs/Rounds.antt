@@ -7,7 +7,6 @@ use Rattle.hv_event.specs.declared.event.ActorId.{ActorId}
 use Rattle.hv_event.specs.declared.event.ActorId.TheVariants.{Hart, Terminal}
 use Rattle.hv_model.specs.declared.entry.Entry.{Entry}
 use Rattle.hv_model.specs.Origin.{Origin, terminals}
-use Rattle.hv_model.specs.Cell.{Actor}
 use Rattle.hv_model.specs.Hart.{hart_at_start, hart_has_ended}
 use Rattle.hv_model.specs.Rules.{machine}
 use Rattle.hv_model.specs.Rounds.{order_of, first_of, first_or, has_ended, terminal_has_ended, turn_of, TakesTurns}

@@ -14,7 +14,7 @@ use Rattle.hv_words.specs.declared.refusal.WordsRefusal.{WordsRefusal}
 use Rattle.hv_words.specs.declared.refusal.WordsRefusal.TheVariants as line
 use Rattle.hv_rules.specs.Carry.{Carry}
 use Rattle.hv_model.specs.declared.entry.Entry.{Entry}
-use Rattle.hv_model.specs.Files.{FileMap, FilesAgree, AnswersSource, read_file}
+use Rattle.hv_model.specs.Files.{FilesAgree, AnswersSource, read_file}
 use Rattle.hv_model.specs.Terminal.{Begun, begun, step_of, IsFirstStep, IsNextStep}
 use Rattle.hv_rounds.specs.declared.files.FileCell.{FileCell}
 use Rattle.hv_rounds.specs.declared.terminal.Terminal.{Terminal}

@@ -1,5 +1,5 @@
 -- One step of a terminal over the files.
-use Rattle.std.specs.Prelude.{◌≡◌, ℕ, ◌+◌, ◌^◌, ◌++◌, max, Option, Some, Result, Ok, Err, List, [], ◌∷◌}
+use Rattle.std.specs.Prelude.{◌≡◌, ℕ, ◌+◌, ◌++◌, max, Option, Some, Result, Ok, Err, List}
 use Rattle.hv_text.specs.declared.limits.TheConstants.{GREATEST_STAMP}
 use Rattle.hv_event.specs.declared.event.ActorId.TheVariants as actor
 use Rattle.hv_step.specs.declared.step.Step.{Step}

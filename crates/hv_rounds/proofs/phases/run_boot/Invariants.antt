@@ -1,4 +1,4 @@
-use Rattle.std.proofs.Common.{◌-◌, ◌^◌, []}
+use Rattle.std.proofs.Common.{◌-◌, []}
 use Rattle.hv_text.specs.declared.limits.TheConstants.{GREATEST_STAMP}
 use Rattle.hv_model.specs.Origin.{Origin}
 use Rattle.hv_rounds.specs.Phase.{BootPart}

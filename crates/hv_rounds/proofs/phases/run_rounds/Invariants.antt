@@ -1,4 +1,4 @@
-use Rattle.std.proofs.Common.{◌≡◌, ◌≤◌, ◌-◌, ◌*◌, ◌^◌, List, []}
+use Rattle.std.proofs.Common.{◌≡◌, ◌≤◌, ◌-◌, ◌*◌, List, []}
 use Rattle.hv_text.specs.declared.limits.TheConstants.{GREATEST_STAMP}
 use Rattle.hv_machine.specs.Machine.{State}
 use Rattle.hv_model.specs.declared.entry.Entry.{Entry}
