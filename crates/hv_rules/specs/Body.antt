@@ -268,9 +268,8 @@ BodyAgrees row body (step.Access s) r c =
     × (c.area ≡ area_in (answer_to body s))
     × (c.parent ≡ parent_of body)
 BodyAgrees row body (step.Sample s) r c =
-    MatchBool (row == s.parent)
-    (TakesLevel (is_born s.generation.birth body) s.source body r)
-    (ShowsLevel (is_born s.generation.birth body && line_in body) r)
+    MatchBool (row == s.row) (ShowsLevel (is_born s.generation.birth body && line_in body) r) (Unit {0})
+    × MatchBool (row == s.parent) (TakesLevel (is_born s.generation.birth body) s.source body r) (Unit {0})
 BodyAgrees row body (step.Pin s) r c =
     ShowsPins (if is_born s.generation.birth body then pins_in body (index_of s.vcpu) else no_pins) r
 BodyAgrees row body _ r c = ⊥

@@ -1,5 +1,5 @@
 -- A line of a terminal: which steps it has, where it is among them, and where a reply leaves it.
-use Rattle.std.specs.Prelude.{ℕ, zero, suc, ◌+◌, Bool, true, false, not, ◌&&◌, if◌then◌else◌, Option, None, Some, Ok, List, [], ◌∷◌, ◌++◌, length, map, slice_get}
+use Rattle.std.specs.Prelude.{ℕ, zero, suc, ◌+◌, Bool, true, false, not, ◌&&◌, if◌then◌else◌, Option, None, Some, Ok, List, [], ◌∷◌, ◌++◌, length, map, replicate, slice_get}
 use Rattle.hv_answer.specs.declared.reply.Reply.{Reply}
 use Rattle.hv_answer.specs.declared.reply.Reply.TheVariants as reply
 use Rattle.hv_kinds.specs.declared.generation.Generation.{Generation}
@@ -26,10 +26,9 @@ pub data Change : Type 0 where
   halt : Change
   reset : Change
 
--- What a line asks for: one step, which shows the generation that the directory gives where it is by guest; rests; a
--- look at each VCPU of the board; the life or the end of a guest; or a change of each of its VCPUs.
+-- What a line of several steps asks for: rests; a look at each VCPU of the board; the life or the end of a guest; or a
+-- change of each of its VCPUs.
 pub data Asked : Type 0 where
-  once : (Option Generation → Step) → Asked
   rests : (count : ℕ) → Asked
   looks : Asked
   create : (name : List ℕ) → Asked
@@ -38,7 +37,6 @@ pub data Asked : Type 0 where
 
 -- One step of a line, with the number of its region's row or of its VCPU where it has one.
 pub data Ask : Type 0 where
-  only : (Option Generation → Step) → Ask
   rest : Ask
   look : (vcpu : ℕ) → Ask
   claim : Ask
@@ -84,8 +82,7 @@ of_rows ask chosen row (region ∷ regions) =
 
 -- The steps of a line if nothing is refused, for a guest with so many VCPUs and these regions.
 abbrev pub steps_of : Asked → (vcpus : ℕ) → List RegionPlan → List Ask
-steps_of (once step) vcpus regions = only step ∷ []
-steps_of (rests count) vcpus regions = each (λ n. rest) count
+steps_of (rests count) vcpus regions = replicate count rest
 steps_of looks vcpus regions = each look VCPUS
 steps_of (create name) vcpus regions =
     claim ∷ []
@@ -139,7 +136,8 @@ why_refused (on made todo) = None
 why_refused (back why made) = Some why
 why_refused (over why) = Some why
 
--- On its way back a line drops the regions that it added, and gives up its claim; the other steps are not undone.
+-- On its way back a line drops the regions that it added, and gives up its claim, which is all else that can stand before
+-- them.
 abbrev pub undoing : Ask → Ask
 undoing (add row) = drop Making row
 undoing _ = turn Making None
@@ -242,7 +240,6 @@ change_step reset vcpu by = step.Reset (record { vcpu = vcpu; guest = Some by })
 
 -- The step that is asked, where the directory gives this generation.
 abbrev pub step_of : LineState → (given : Option Generation) → Ask → Step
-step_of line given (only one) = one given
 step_of line given rest = step.Rest (record {})
 step_of line given (look vcpu) = step.Look (record { vcpu = vcpu })
 step_of line given claim = step.Name (record { name = guest_name line.asked })

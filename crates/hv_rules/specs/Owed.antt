@@ -43,8 +43,7 @@ child_samples generation new from [] = []
 child_samples generation new from (region ∷ regions) =
     sample_to generation from new region.parent ++ child_samples generation new (from + 1) regions
 
--- What changed of a region's signals is owed: first the sample, then the pins. Behind these an addition of a device to
--- a guest that is made owes the samples of the regions whose interrupts it takes.
+-- What changed of a region's signals is owed: first the sample, then the pins.
 abbrev pub owed_for : Generation → (row : ℕ) → (parent : Option (ℕ × ℕ)) → SignalChanges → List Step
 owed_for generation row parent changes =
     samples generation row parent changes.line ++ pin_steps generation row changes.pins
