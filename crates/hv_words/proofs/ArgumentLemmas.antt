@@ -2,7 +2,7 @@
 use Rattle.std.proofs.Common.{◌≡◌, ℕ, ◌+◌, List, ◌∷◌, sym, subst, inr}
 use Rattle.hv_words.specs.declared.refusal.WordsRefusal.{WordsRefusal}
 use Rattle.hv_words.specs.declared.refusal.WordsRefusal.TheVariants as refusal
-use Rattle.hv_words.specs.Commands.{Kind, AnyPath, NamedPath, Argument, PathGiven, TextGiven, NumberGiven, Fits}
+use Rattle.hv_words.specs.Commands.{Kind, AnyPath, NamedPath, Argument, PathGiven, TextGiven, NumberGiven, WordGiven, Fits}
 use Rattle.hv_words.specs.Arguments.{IsRefusedAt, AreRefusedFrom}
 
 -- the misfit is a later word
@@ -19,6 +19,7 @@ named_is_any : (word : List ℕ) (a : Argument) → Fits NamedPath word a → Fi
 named_is_any word (PathGiven path) h = (h.0, h.2)
 named_is_any word (TextGiven bytes) h = h
 named_is_any word (NumberGiven n) h = h
+named_is_any word (WordGiven w) h = h
 
 -- what is no path is no path of a name at least
 pub refused_as_named : (word : List ℕ) (at : ℕ) (e : WordsRefusal) → IsRefusedAt AnyPath word at e → IsRefusedAt NamedPath word at e

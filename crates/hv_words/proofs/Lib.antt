@@ -4,3 +4,5 @@ pub mod ArgumentLemmas
 pub mod TextLemmas
 pub mod Unambiguous
 pub mod PrintLemmas
+pub mod FoundLemmas
+pub mod SaidLemmas

@@ -1,7 +1,9 @@
 -- A printed command is read back.
-use Rattle.std.proofs.Common.{◌≡◌, ◌≢◌, ℕ, ◌/◌, ◌%◌, ◌^◌, ◌<◌, ◌≤◌, Bool, cond, true, false, eqb, List, [], ◌∷◌, ◌++◌, length, refl, sym, ap, subst, ◌∙◌, inl, inr, arith, length-append, filter, not, map, eq-eqb, ltb}
-use Rattle.std.specs.Prelude.{codes}
-use Rattle.std.specs.List.{AllByRecursion, flat_map, join_with_byte}
+use Rattle.std.proofs.Common.{◌≡◌, ◌≢◌, ℕ, ◌+◌, ◌/◌, ◌%◌, ◌^◌, ◌<◌, ◌≤◌, Bool, cond, true, false, eqb, List, [], ◌∷◌, ◌++◌, length, refl, sym, ap, subst, ◌∙◌, inl, inr, arith, length-append, drop, ◌&&◌, filter, not, map, eq-eqb, ltb}
+use Rattle.std.specs.Prelude.{Ok, Err}
+use Rattle.std.specs.Str.Parse.{digits_value}
+use Rattle.std.proofs.lemmas.Bool.Decides.{nat_tests}
+use Rattle.std.specs.List.{AllByRecursion, flat_map, join_with_byte, starts_with}
 use Rattle.std.specs.Char.{digit_value, digit_char, is_ascii_graphic}
 use Rattle.std.specs.Fmt.{decimal}
 use Rattle.std.specs.Str.Parse.{AllDigits}
@@ -13,13 +15,15 @@ use Rattle.std.proofs.lemmas.Str.{digit_value-digit_char}
 use Rattle.std.proofs.lemmas.Str.Parse.{digit_from_value}
 use Rattle.hv_text.specs.Front.{IsFree}
 use Rattle.hv_text.specs.Path.{IsNameByte, ArePathNames, slashed, path_text}
+use Rattle.hv_text.specs.declared.number.NumberRefusal.TheVariants.{NotANumber, TooLarge}
+use Rattle.hv_text.specs.Number.{digits_front, number_in, number_of}
 use Rattle.hv_text.proofs.Numbers.{number_of-decimal}
 use Rattle.hv_words.specs.declared.command.Command.{Command}
-use Rattle.hv_words.specs.declared.command.Command.TheVariants as command
 use Rattle.hv_words.specs.Words.{is_empty, onto_first, pieces, words}
 use Rattle.hv_words.specs.Text.{Spells, SpellsAll}
-use Rattle.hv_words.specs.Commands.{Kind, AnyPath, NamedPath, SomeText, RestCount, Argument, PathGiven, TextGiven, NumberGiven, Fits, FitAll, row_of, arguments_of, Gives}
+use Rattle.hv_words.specs.Commands.{Kind, AnyPath, NamedPath, SomeText, RestCount, SomeWord, VcpuNumber, AnyAddress, ByteCount, Argument, NumberGiven, Fits, FitAll, row_of, arguments_of, IsPrintable, Gives}
 use Rattle.hv_words.specs.Print.{byte_text, argument_text, command_text}
+use Rattle.hv_words.proofs.Unambiguous.{Content, argument_with, content_of}
 use Rattle.hv_words.proofs.WordLemmas.{words-space, first_word}
 
 -- a byte is a graphic character
@@ -64,28 +68,30 @@ joined_print [] h = tt
 joined_print (w ∷ []) h = visible_print w h.0.1
 joined_print (w ∷ v ∷ more) h = print_append w (32 ∷ join_with_byte 32 (v ∷ more)) (visible_print w h.0.1) ((omega arith, omega arith), joined_print (v ∷ more) h.1)
 
--- the words of a printable line are printable
-pieces_onto : (b : ℕ) (ps : List (List ℕ)) → IsPrint b → AllByRecursion (AllByRecursion IsPrint) ps → AllByRecursion (AllByRecursion IsPrint) (onto_first b ps)
+-- the words of a printable line are visible
+pieces_onto : (b : ℕ) (ps : List (List ℕ)) → IsVisible b → AllByRecursion (AllByRecursion IsVisible) ps → AllByRecursion (AllByRecursion IsVisible) (onto_first b ps)
 pieces_onto b [] h k = ((h, tt), tt)
 pieces_onto b (p ∷ ps) h k = ((h, k.0), k.1)
 
-pieces_print : (line : List ℕ) → AllByRecursion IsPrint line → AllByRecursion (AllByRecursion IsPrint) (pieces line)
-pieces_print [] h = (tt, tt)
-pieces_print (b ∷ bs) h =
-    let more = pieces_print bs h.1 in
-    let onto = pieces_onto b (pieces bs) h.0 more in
-    elim (eqb b 32) as (λ t. AllByRecursion (AllByRecursion IsPrint) (cond t ([] ∷ pieces bs) (onto_first b (pieces bs)))) [
-      | true ↦ (tt, more)
-      | false ↦ onto
-    ]
+beyond_space : (b : ℕ) → IsPrint b → eqb b 32 ≡ false → IsVisible b
+beyond_space b h other = grind (arith, nat_tests)
 
-kept_print : (ps : List (List ℕ)) → AllByRecursion (AllByRecursion IsPrint) ps → AllByRecursion (AllByRecursion IsPrint) (filter (λ p. not (is_empty p)) ps)
-kept_print [] h = tt
-kept_print ([] ∷ ps) h = kept_print ps h.1
-kept_print ((b ∷ bs) ∷ ps) h = (h.0, kept_print ps h.1)
+pieces_visible : (line : List ℕ) → AllByRecursion IsPrint line → AllByRecursion (AllByRecursion IsVisible) (pieces line)
+pieces_visible [] h = (tt, tt)
+pieces_visible (b ∷ bs) h =
+    let more = pieces_visible bs h.1 in
+    elim (eqb b 32) as (λ t. eqb b 32 ≡ t → AllByRecursion (AllByRecursion IsVisible) (cond t ([] ∷ pieces bs) (onto_first b (pieces bs)))) [
+      | true ↦ λ is. (tt, more)
+      | false ↦ λ is. pieces_onto b (pieces bs) (beyond_space b h.0 is) more
+    ] refl
 
-words_print : (line : List ℕ) → AllByRecursion IsPrint line → AllByRecursion (AllByRecursion IsPrint) (words line)
-words_print line h = kept_print (pieces line) (pieces_print line h)
+kept_visible : (ps : List (List ℕ)) → AllByRecursion (AllByRecursion IsVisible) ps → AllByRecursion IsVisibleWord (filter (λ p. not (is_empty p)) ps)
+kept_visible [] h = tt
+kept_visible ([] ∷ ps) h = kept_visible ps h.1
+kept_visible ((b ∷ bs) ∷ ps) h = ((omega arith, h.0), kept_visible ps h.1)
+
+pub words_visible : (line : List ℕ) → IsPrintable line → AllByRecursion IsVisibleWord (words line)
+words_visible line h = kept_visible (pieces line) (pieces_visible line (recursion_from_All IsPrint line h))
 
 -- the text of a path is visible
 name_byte_visible : (b : ℕ) → IsNameByte b → IsVisible b
@@ -115,6 +121,24 @@ digits_visible (d ∷ ds) h = let digit = digit_from_value d h.0 in ((omega (ari
 
 decimal_visible : (n : ℕ) → n < 2 ^ 64 → IsVisibleWord (decimal n)
 decimal_visible n lt = let both = decimal_is_IsNumeral n lt in (both.0.0, digits_visible (decimal n) both.0.1)
+
+-- a number that is read is below 2^64
+in_small : (radix start : ℕ) (ds : List ℕ) (n : ℕ) (one fits : Bool) → ltb (digits_value radix ds) (2 ^ 64) ≡ fits
+    → cond one (cond fits (Ok (digits_value radix ds)) (Err TooLarge)) (Err (NotANumber (start + digits_front radix ds))) ≡ Ok n → n < 2 ^ 64
+in_small radix start ds n true true is e = let same : digits_value radix ds ≡ n = cc e in subst (λ (m : ℕ). m < 2 ^ 64) same (ltb-true (digits_value radix ds) (2 ^ 64) is)
+in_small radix start ds n true false is e = absurd (cc e)
+in_small radix start ds n false fits is e = absurd (cc e)
+
+part_small : (radix start : ℕ) (ds : List ℕ) (n : ℕ) → number_in radix start ds ≡ Ok n → n < 2 ^ 64
+part_small radix start ds n e =
+    in_small radix start ds n (eqb (digits_front radix ds) (length ds) && ltb 0 (digits_front radix ds)) (ltb (digits_value radix ds) (2 ^ 64)) refl e
+
+number_small : (word : List ℕ) (n : ℕ) → number_of word ≡ Ok n → n < 2 ^ 64
+number_small word n e =
+    elim (starts_with eqb word (48 ∷ 120 ∷ [])) as (λ t. cond t (number_in 16 2 (drop 2 word)) (number_in 10 0 word) ≡ Ok n → n < 2 ^ 64) [
+      | true ↦ λ is. part_small 16 2 (drop 2 word) n is
+      | false ↦ λ is. part_small 10 0 word n is
+    ] e
 
 -- the printed form of a byte is a visible spelling of it
 record IsGoodSpelling (piece : List ℕ) (b : ℕ) : Type 0 where
@@ -205,77 +229,63 @@ record IsReadBack (k : Kind) (a : Argument) : Type 0 where
   fits : Fits k (argument_text a) a
   visible : IsVisibleWord (argument_text a)
 
-read_back : (k : Kind) (word : List ℕ) (a : Argument) → AllByRecursion IsPrint word → Fits k word a → IsReadBack k a
-read_back AnyPath word (PathGiven path) print h = record { fits = (h.0, refl); visible = path_visible path h.0.names }
-read_back AnyPath word (TextGiven t) print h = absurd h
-read_back AnyPath word (NumberGiven n) print h = absurd h
-read_back NamedPath word (PathGiven path) print h = record { fits = (h.0, h.1, refl); visible = path_visible path h.0.names }
-read_back NamedPath word (TextGiven t) print h = absurd h
-read_back NamedPath word (NumberGiven n) print h = absurd h
-read_back SomeText word (TextGiven bytes) print h =
-    let small = spelled_bytes word bytes print h.spelled in
+number_back : (k : Kind) (word : List ℕ) (n : ℕ) → number_of word ≡ Ok n → (number_of (decimal n) ≡ Ok n → Fits k (decimal n) (NumberGiven n)) → IsReadBack k (NumberGiven n)
+number_back k word n is fits =
+    let small : n < 2 ^ 64 = number_small word n is in
+    record { fits = fits (number_of-decimal n small); visible = decimal_visible n small }
+
+content_back : (k : Kind) (word : List ℕ) (x : Content k) → IsVisibleWord word → Fits k word (argument_with k x) → IsReadBack k (argument_with k x)
+content_back AnyPath word path visible h = record { fits = (h.0, refl); visible = path_visible path h.0.names }
+content_back NamedPath word path visible h = record { fits = (h.0, h.1, refl); visible = path_visible path h.0.names }
+content_back SomeText word bytes visible h =
+    let small = spelled_bytes word bytes (visible_print word visible.1) h.spelled in
     record { fits = record { some = h.some; spelled = text_spelled bytes small }; visible = (text_some bytes small h.some, text_visible bytes small) }
-read_back SomeText word (PathGiven p) print h = absurd h
-read_back SomeText word (NumberGiven n) print h = absurd h
-read_back RestCount word (NumberGiven n) print h =
-    let small : n < 2 ^ 64 = omega (arith, h.2) in
-    record { fits = (number_of-decimal n small, h.1, h.2); visible = decimal_visible n small }
-read_back RestCount word (PathGiven p) print h = absurd h
-read_back RestCount word (TextGiven t) print h = absurd h
+content_back RestCount word n visible h = number_back RestCount word n h.0 (λ is. (is, h.1, h.2))
+content_back SomeWord word given visible h = record { fits = refl; visible = subst IsVisibleWord (sym h) visible }
+content_back VcpuNumber word n visible h = number_back VcpuNumber word n h.0 (λ is. (is, h.1))
+content_back AnyAddress word n visible h = number_back AnyAddress word n h (λ is. is)
+content_back ByteCount word n visible h = number_back ByteCount word n h.0 (λ is. (is, h.1, h.2))
+
+read_back : (k : Kind) (word : List ℕ) (a : Argument) → IsVisibleWord word → Fits k word a → IsReadBack k a
+read_back k word a visible h =
+    let x = content_of k word a h in
+    subst (IsReadBack k) (sym x.1) (content_back k word x.0 visible (subst (Fits k word) x.1 h))
 
 record AreReadBack (ks : List Kind) (given : List Argument) : Type 0 where
   fits : FitAll ks (map argument_text given) given
   visible : AllByRecursion IsVisibleWord (map argument_text given)
 
-all_read_back : (ks : List Kind) (ws : List (List ℕ)) (given : List Argument) → AllByRecursion (AllByRecursion IsPrint) ws → FitAll ks ws given → AreReadBack ks given
-all_read_back [] [] [] print h = record { fits = tt; visible = tt }
-all_read_back [] [] (a ∷ given) print h = absurd h
-all_read_back [] (w ∷ ws) given print h = absurd h
-all_read_back (k ∷ ks) [] given print h = absurd h
-all_read_back (k ∷ ks) (w ∷ ws) [] print h = absurd h
-all_read_back (k ∷ ks) (w ∷ ws) (a ∷ given) print h =
-    let first = read_back k w a print.0 h.0 in
-    let others = all_read_back ks ws given print.1 h.1 in
+all_read_back : (ks : List Kind) (ws : List (List ℕ)) (given : List Argument) → AllByRecursion IsVisibleWord ws → FitAll ks ws given → AreReadBack ks given
+all_read_back [] [] [] seen h = record { fits = tt; visible = tt }
+all_read_back [] [] (a ∷ given) seen h = absurd h
+all_read_back [] (w ∷ ws) given seen h = absurd h
+all_read_back (k ∷ ks) [] given seen h = absurd h
+all_read_back (k ∷ ks) (w ∷ ws) [] seen h = absurd h
+all_read_back (k ∷ ks) (w ∷ ws) (a ∷ given) seen h =
+    let first = read_back k w a seen.0 h.0 in
+    let others = all_read_back ks ws given seen.1 h.1 in
     record { fits = (first.fits, others.fits); visible = (first.visible, others.visible) }
 
-abbrev all_graphic : List ℕ → Bool
-all_graphic [] = true
-all_graphic (b ∷ bs) = cond (is_ascii_graphic b) (all_graphic bs) false
+-- a line whose row has two visible words gives the line that its arguments are printed as
+pub record IsPrinted (family name : List ℕ) (kinds : List Kind) (given : List Argument) : Type 0 where
+  pub printable : IsPrintable (join_with_byte 32 (family ∷ name ∷ map argument_text given))
+  pub words_are : words (join_with_byte 32 (family ∷ name ∷ map argument_text given)) ≡ family ∷ name ∷ map argument_text given
+  pub fit : FitAll kinds (map argument_text given) given
 
-first_graphic : (b : ℕ) (bs : List ℕ) (t : Bool) → is_ascii_graphic b ≡ t → cond t (all_graphic bs) false ≡ true → IsVisible b × (all_graphic bs ≡ true)
-first_graphic b bs true e h = (graphic_visible b e, h)
-first_graphic b bs false e h = absurd (false≢true h)
-
-graphic_visible_all : (word : List ℕ) → all_graphic word ≡ true → AllByRecursion IsVisible word
-graphic_visible_all [] h = tt
-graphic_visible_all (b ∷ bs) h = let first = first_graphic b bs (is_ascii_graphic b) refl h in (first.0, graphic_visible_all bs first.1)
-
-graphic_word : (word : List ℕ) → ltb 0 (length word) ≡ true → all_graphic word ≡ true → IsVisibleWord word
-graphic_word word some h = (ltb-true 0 (length word) some, graphic_visible_all word h)
-
--- the two words of a row are visible
-row_visible : (c : Command) → IsVisibleWord (row_of c).family × IsVisibleWord (row_of c).name
-row_visible (command.VfsLs path) = (graphic_word (codes "vfs") refl refl, graphic_word (codes "ls") refl refl)
-row_visible (command.VfsCat path) = (graphic_word (codes "vfs") refl refl, graphic_word (codes "cat") refl refl)
-row_visible (command.VfsDts path) = (graphic_word (codes "vfs") refl refl, graphic_word (codes "dts") refl refl)
-row_visible (command.VfsMkdir path) = (graphic_word (codes "vfs") refl refl, graphic_word (codes "mkdir") refl refl)
-row_visible (command.VfsRm path) = (graphic_word (codes "vfs") refl refl, graphic_word (codes "rm") refl refl)
-row_visible (command.VfsWrite path text) = (graphic_word (codes "vfs") refl refl, graphic_word (codes "write") refl refl)
-row_visible (command.VfsAsm source target) = (graphic_word (codes "vfs") refl refl, graphic_word (codes "asm") refl refl)
-row_visible (command.VfsRun path) = (graphic_word (codes "vfs") refl refl, graphic_word (codes "run") refl refl)
-row_visible (command.TermRest count) = (graphic_word (codes "term") refl refl, graphic_word (codes "rest") refl refl)
+pub printed : (line family name : List ℕ) (ws : List (List ℕ)) (kinds : List Kind) (given : List Argument) → IsPrintable line → words line ≡ family ∷ name ∷ ws → FitAll kinds ws given → IsPrinted family name kinds given
+printed line family name ws kinds given printable is fit =
+    let seen : AllByRecursion IsVisibleWord (family ∷ name ∷ ws) = subst (AllByRecursion IsVisibleWord) is (words_visible line printable) in
+    let back = all_read_back kinds ws given seen.1.1 fit in
+    let texts = map argument_text given in
+    let visible : AllByRecursion IsVisibleWord (family ∷ name ∷ texts) = (seen.0, (seen.1.0, back.visible)) in
+    record {
+      printable = All-from_recursion IsPrint (join_with_byte 32 (family ∷ name ∷ texts)) (joined_print (family ∷ name ∷ texts) visible);
+      words_are = words_joined (family ∷ name ∷ texts) visible;
+      fit = back.fits;
+    }
 
 -- what some line gives is given by its printed line
 pub gives_back : (line : List ℕ) (c : Command) → Gives line c → Gives (command_text c) c
 gives_back line c h =
-    let print = words_print line (recursion_from_All IsPrint line h.printable) in
-    let cut : AllByRecursion (AllByRecursion IsPrint) ((row_of c).family ∷ (row_of c).name ∷ h.arguments) = subst (AllByRecursion (AllByRecursion IsPrint)) h.words_are print in
-    let back = all_read_back (row_of c).kinds h.arguments (arguments_of c) cut.1.1 h.fit in
-    let row = row_visible c in
-    let visible : AllByRecursion IsVisibleWord ((row_of c).family ∷ (row_of c).name ∷ map argument_text (arguments_of c)) = (row.0, (row.1, back.visible)) in
-    record {
-      printable = All-from_recursion IsPrint (command_text c) (joined_print ((row_of c).family ∷ (row_of c).name ∷ map argument_text (arguments_of c)) visible);
-      arguments = map argument_text (arguments_of c);
-      words_are = words_joined ((row_of c).family ∷ (row_of c).name ∷ map argument_text (arguments_of c)) visible;
-      fit = back.fits;
-    }
+    let back = printed line (row_of c).family (row_of c).name h.arguments (row_of c).kinds (arguments_of c) h.printable h.words_are h.fit in
+    record { printable = back.printable; arguments = map argument_text (arguments_of c); words_are = back.words_are; fit = back.fit }

@@ -1,38 +1,25 @@
 -- What a text spells, byte after byte.
-use Rattle.std.proofs.Common.{◌≡◌, ℕ, ◌+◌, ◌*◌, ◌<◌, List, [], ◌∷◌, ◌++◌, length, refl, sym, ap, subst, ◌∙◌, inl, inr, arith, append_assoc, cond, Bool, ne_eqb, length-append, Bor}
-use Rattle.std.specs.Prelude.{Option, Some, None, MatchOption, ◌==◌, if◌then◌else◌}
+use Rattle.std.proofs.Common.{◌≡◌, ℕ, ◌+◌, ◌*◌, ◌<◌, List, [], ◌∷◌, ◌++◌, length, refl, sym, ap, subst, ◌∙◌, inl, inr, arith, append_assoc, cond, Bool, ltb, ne_eqb, length-append, Bor}
+use Rattle.std.specs.Prelude.{Option, Some, None, MatchOption}
 use Rattle.std.specs.Char.{digit_value}
+use Rattle.std.proofs.lemmas.Bool.{and_from, lt-ltb}
 use Rattle.std.proofs.lemmas.List.{append-nil, nil_from_length}
 use Rattle.hv_words.specs.Text.{Spells, SpellsAll, IsText}
-use Rattle.hv_words.specs.Commands.{SomeText, PathGiven, TextGiven, NumberGiven}
+use Rattle.hv_words.specs.Commands.{SomeText, PathGiven, TextGiven, NumberGiven, WordGiven}
 use Rattle.hv_words.specs.Arguments.{IsUnfit}
-use Rattle.hv_words.specs.Spelled.{BeginsWithDigitPair, HasNoDigitPair, BeginsWithByte, HasNoByte}
+use Rattle.hv_words.specs.Spelled.{BeginsWithDigitPair, HasNoDigitPair, BeginsWithByte, HasNoByte, escaped, spelled_front}
 
--- what stands behind an escape's letter, and the byte
-abbrev digits_value : List ℕ → Option (ℕ × List ℕ)
-digits_value [] = None
-digits_value (h ∷ []) = None
-digits_value (h ∷ l ∷ rest) = Some (digit_value h * 16 + digit_value l, rest)
-
-abbrev escape_value : ℕ → List ℕ → Option (ℕ × List ℕ)
-escape_value b rest = if b == 92 then Some (92, rest) else (if b == 110 then Some (10, rest) else (if b == 115 then Some (32, rest) else digits_value rest))
-
-abbrev escaped : List ℕ → Option (ℕ × List ℕ)
-escaped [] = None
-escaped (b ∷ rest) = escape_value b rest
-
--- the byte that a front spells, and what follows it
-abbrev spelled_front : List ℕ → Option (ℕ × List ℕ)
-spelled_front [] = None
-spelled_front (b ∷ rest) = if b == 92 then escaped rest else Some (b, rest)
-
-spelled_is : (piece rest : List ℕ) (byte : ℕ) → Spells piece byte → spelled_front (piece ++ rest) ≡ Some (byte, rest)
+pub spelled_is : (piece rest : List ℕ) (byte : ℕ) → Spells piece byte → spelled_front (piece ++ rest) ≡ Some (byte, rest)
 spelled_is piece rest byte (inl h) =
     ap (λ (p : List ℕ). spelled_front (p ++ rest)) h.1 ∙ ap (λ (b : Bool). cond b (escaped rest) (Some (byte, rest))) (ne_eqb byte 92 h.0)
 spelled_is piece rest byte (inr (inl h)) = ap (λ (p : List ℕ). spelled_front (p ++ rest)) h.1 ∙ ap (λ (b : ℕ). Some (b, rest)) (sym h.0)
 spelled_is piece rest byte (inr (inr (inl h))) = ap (λ (p : List ℕ). spelled_front (p ++ rest)) h.1 ∙ ap (λ (b : ℕ). Some (b, rest)) (sym h.0)
 spelled_is piece rest byte (inr (inr (inr (inl h)))) = ap (λ (p : List ℕ). spelled_front (p ++ rest)) h.1 ∙ ap (λ (b : ℕ). Some (b, rest)) (sym h.0)
-spelled_is piece rest byte (inr (inr (inr (inr h)))) = ap (λ (p : List ℕ). spelled_front (p ++ rest)) h.piece_is ∙ ap (λ (b : ℕ). Some (b, rest)) (sym h.value)
+spelled_is piece rest byte (inr (inr (inr (inr h)))) =
+    let both = and_from (ltb (digit_value h.high) 16) (ltb (digit_value h.low) 16) (lt-ltb (digit_value h.high) 16 h.high_digit) (lt-ltb (digit_value h.low) 16 h.low_digit) in
+    ap (λ (p : List ℕ). spelled_front (p ++ rest)) h.piece_is
+    ∙ ap (λ (t : Bool). cond t (Some (digit_value h.high * 16 + digit_value h.low, rest)) None) both
+    ∙ ap (λ (b : ℕ). Some (b, rest)) (sym h.value)
 
 -- a text begins with one spelled byte at most
 pub same_byte : (text : List ℕ) (b c : ℕ) (x y : List ℕ) → BeginsWithByte text b x → BeginsWithByte text c y → (b ≡ c) × (x ≡ y)
@@ -120,6 +107,7 @@ stuck rest (o ∷ os) some none spells = none o spells.1 (record { piece = spell
 pub unfit_where_stuck : (word bytes rest : List ℕ) → SpellsSoFar word bytes rest → 0 < length rest → HasNoByte rest → IsUnfit SomeText word
 unfit_where_stuck word bytes rest so_far some none (PathGiven path) fits = fits
 unfit_where_stuck word bytes rest so_far some none (NumberGiven n) fits = fits
+unfit_where_stuck word bytes rest so_far some none (WordGiven w) fits = fits
 unfit_where_stuck word bytes rest so_far some none (TextGiven all) fits =
     let o = so_far.parted all fits.spelled in
     stuck rest o.0 some none o.2
@@ -133,6 +121,7 @@ nothing_spelled rest (o ∷ os) none spells =
 pub unfit_where_empty : (word bytes rest : List ℕ) → SpellsSoFar word bytes rest → length rest ≡ 0 → length bytes ≡ 0 → IsUnfit SomeText word
 unfit_where_empty word bytes rest so_far over empty (PathGiven path) fits = fits
 unfit_where_empty word bytes rest so_far over empty (NumberGiven n) fits = fits
+unfit_where_empty word bytes rest so_far over empty (WordGiven w) fits = fits
 unfit_where_empty word bytes rest so_far over empty (TextGiven all) fits =
     let o = so_far.parted all fits.spelled in
     let none : o.0 ≡ [] = nothing_spelled rest o.0 over o.2 in

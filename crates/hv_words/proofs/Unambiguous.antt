@@ -1,6 +1,7 @@
 -- A line says one thing at most.
 use Rattle.std.proofs.Common.{◌≡◌, ℕ, ◌+◌, List, [], ◌∷◌, length, refl, sym, ap, subst, ◌∙◌, inl, inr, arith, length-append}
-use Rattle.std.specs.Prelude.{Option, Some, None, Result, Ok, Err, MatchResult}
+use Rattle.std.specs.Prelude.{Some, Result, Ok, Err, MatchResult}
+use Rattle.hv_text.specs.Number.{number_of}
 use Rattle.hv_text.specs.Path.{ArePathNames, slashed, path_text}
 use Rattle.hv_text.proofs.Names.{path_text_same}
 use Rattle.hv_words.specs.declared.command.Command.{Command}
@@ -11,13 +12,14 @@ use Rattle.hv_words.specs.declared.row.RowName.{RowName}
 use Rattle.hv_words.specs.declared.row.RowName.TheVariants as row
 use Rattle.hv_words.specs.Words.{words}
 use Rattle.hv_words.specs.Text.{SpellsAll}
-use Rattle.hv_words.specs.Commands.{Row, Kind, AnyPath, NamedPath, SomeText, RestCount, Argument, PathGiven, TextGiven, NumberGiven, Fits, FitAll, IsMisfit, row_of, arguments_of, IsPrintable, Gives, BeginsRow, IsNoCommand, HasBadWord, Says}
+use Rattle.hv_words.specs.Commands.{Row, Kind, AnyPath, NamedPath, SomeText, RestCount, SomeWord, VcpuNumber, AnyAddress, ByteCount, Argument, PathGiven, TextGiven, NumberGiven, WordGiven, Fits, FitAll, IsMisfit, row_of, arguments_of, IsPrintable, Gives, BeginsRow, IsNoCommand, HasBadWord, Says}
 use Rattle.hv_words.specs.Rows.{row_named, row_with, HasWords}
 use Rattle.hv_words.specs.Arguments.{HasArguments, AreRefusedFrom, Agree}
+use Rattle.hv_words.specs.Said.{command_with}
 use Rattle.hv_words.proofs.TextLemmas.{same_byte, byte_is_some}
 
 -- the name of a command's row
-abbrev name_of : Command → RowName
+abbrev pub name_of : Command → RowName
 name_of (command.VfsLs path) = row.VfsLs
 name_of (command.VfsCat path) = row.VfsCat
 name_of (command.VfsDts path) = row.VfsDts
@@ -52,7 +54,7 @@ some_command row.VfsRun = (command.VfsRun [], refl)
 some_command row.TermRest = (command.TermRest 0, refl)
 
 -- a row is found by its two words
-row_found : (c : Command) → row_with (row_of c).family (row_of c).name ≡ Some (name_of c)
+pub row_found : (c : Command) → row_with (row_of c).family (row_of c).name ≡ Some (name_of c)
 row_found (command.VfsLs path) = refl
 row_found (command.VfsCat path) = refl
 row_found (command.VfsDts path) = refl
@@ -72,21 +74,7 @@ same_name c d families names =
 same_row : (c d : Command) → (row_of c).family ≡ (row_of d).family → (row_of c).name ≡ (row_of d).name → row_of c ≡ row_of d
 same_row c d families names = row_by_name c ∙ ap row_named (same_name c d families names) ∙ sym (row_by_name d)
 
--- the command of a row with these arguments
-command_with : RowName → List Argument → Option Command
-command_with row.VfsLs (PathGiven path ∷ []) = Some (command.VfsLs path)
-command_with row.VfsCat (PathGiven path ∷ []) = Some (command.VfsCat path)
-command_with row.VfsDts (PathGiven path ∷ []) = Some (command.VfsDts path)
-command_with row.VfsMkdir (PathGiven path ∷ []) = Some (command.VfsMkdir path)
-command_with row.VfsRm (PathGiven path ∷ []) = Some (command.VfsRm path)
-command_with row.VfsWrite (PathGiven path ∷ TextGiven text ∷ []) = Some (command.VfsWrite path text)
-command_with row.VfsAsm (PathGiven source ∷ PathGiven target ∷ []) = Some (command.VfsAsm source target)
-command_with row.VfsRun (PathGiven path ∷ []) = Some (command.VfsRun path)
-command_with row.TermRest (NumberGiven count ∷ []) = Some (command.TermRest count)
-command_with _ _ = None
-
 command_found : (c : Command) → command_with (name_of c) (arguments_of c) ≡ Some c
-unfolding command_with
 command_found (command.VfsLs path) = refl
 command_found (command.VfsCat path) = refl
 command_found (command.VfsDts path) = refl
@@ -119,30 +107,86 @@ same_text word (b ∷ bs) (c ∷ cs) h k =
     let rest : SpellsAll h.1 cs = subst (λ (t : List ℕ). SpellsAll t cs) (sym same.1) k.4 in
     cc (same.0, same_text h.1 bs cs h.4 rest)
 
+same_number : (word : List ℕ) (m n : ℕ) → number_of word ≡ Ok m → number_of word ≡ Ok n → NumberGiven m ≡ NumberGiven n
+same_number word m n h k =
+    let both : Ok m ≡ Ok n = sym h ∙ k in
+    ap NumberGiven (cc both)
+
+-- what a kind gives is made of its content
+abbrev pub Content : Kind → Type 0
+Content AnyPath = List (List ℕ)
+Content NamedPath = List (List ℕ)
+Content SomeText = List ℕ
+Content RestCount = ℕ
+Content SomeWord = List ℕ
+Content VcpuNumber = ℕ
+Content AnyAddress = ℕ
+Content ByteCount = ℕ
+
+abbrev pub argument_with : (k : Kind) → Content k → Argument
+argument_with AnyPath path = PathGiven path
+argument_with NamedPath path = PathGiven path
+argument_with SomeText bytes = TextGiven bytes
+argument_with RestCount n = NumberGiven n
+argument_with SomeWord word = WordGiven word
+argument_with VcpuNumber n = NumberGiven n
+argument_with AnyAddress n = NumberGiven n
+argument_with ByteCount n = NumberGiven n
+
+-- what fits a kind is made of its content
+pub content_of : (k : Kind) (word : List ℕ) (a : Argument) → Fits k word a → (x : Content k) × (a ≡ argument_with k x)
+content_of AnyPath word (PathGiven x) h = (x, refl)
+content_of AnyPath word (TextGiven x) h = absurd h
+content_of AnyPath word (NumberGiven x) h = absurd h
+content_of AnyPath word (WordGiven x) h = absurd h
+content_of NamedPath word (PathGiven x) h = (x, refl)
+content_of NamedPath word (TextGiven x) h = absurd h
+content_of NamedPath word (NumberGiven x) h = absurd h
+content_of NamedPath word (WordGiven x) h = absurd h
+content_of SomeText word (TextGiven x) h = (x, refl)
+content_of SomeText word (PathGiven x) h = absurd h
+content_of SomeText word (NumberGiven x) h = absurd h
+content_of SomeText word (WordGiven x) h = absurd h
+content_of RestCount word (NumberGiven x) h = (x, refl)
+content_of RestCount word (PathGiven x) h = absurd h
+content_of RestCount word (TextGiven x) h = absurd h
+content_of RestCount word (WordGiven x) h = absurd h
+content_of SomeWord word (WordGiven x) h = (x, refl)
+content_of SomeWord word (PathGiven x) h = absurd h
+content_of SomeWord word (TextGiven x) h = absurd h
+content_of SomeWord word (NumberGiven x) h = absurd h
+content_of VcpuNumber word (NumberGiven x) h = (x, refl)
+content_of VcpuNumber word (PathGiven x) h = absurd h
+content_of VcpuNumber word (TextGiven x) h = absurd h
+content_of VcpuNumber word (WordGiven x) h = absurd h
+content_of AnyAddress word (NumberGiven x) h = (x, refl)
+content_of AnyAddress word (PathGiven x) h = absurd h
+content_of AnyAddress word (TextGiven x) h = absurd h
+content_of AnyAddress word (WordGiven x) h = absurd h
+content_of ByteCount word (NumberGiven x) h = (x, refl)
+content_of ByteCount word (PathGiven x) h = absurd h
+content_of ByteCount word (TextGiven x) h = absurd h
+content_of ByteCount word (WordGiven x) h = absurd h
+
+-- a word gives one content of a kind at most
+same_content : (k : Kind) (word : List ℕ) (x y : Content k) → Fits k word (argument_with k x) → Fits k word (argument_with k y) → argument_with k x ≡ argument_with k y
+same_content AnyPath word p q h k = ap PathGiven (same_path p q h.0.names k.0.names (sym h.1 ∙ k.1))
+same_content NamedPath word p q h k = ap PathGiven (same_path p q h.0.names k.0.names (sym h.2 ∙ k.2))
+same_content SomeText word s t h k = ap TextGiven (same_text word s t h.spelled k.spelled)
+same_content RestCount word m n h k = same_number word m n h.0 k.0
+same_content SomeWord word v w h k = ap WordGiven (h ∙ sym k)
+same_content VcpuNumber word m n h k = same_number word m n h.0 k.0
+same_content AnyAddress word m n h k = same_number word m n h k
+same_content ByteCount word m n h k = same_number word m n h.0 k.0
+
 -- a word gives one argument of a kind at most
 same_argument : (k : Kind) (word : List ℕ) (a b : Argument) → Fits k word a → Fits k word b → a ≡ b
-same_argument AnyPath word (PathGiven p) (PathGiven q) h k = ap PathGiven (same_path p q h.0.names k.0.names (sym h.1 ∙ k.1))
-same_argument AnyPath word (PathGiven p) (TextGiven t) h k = absurd k
-same_argument AnyPath word (PathGiven p) (NumberGiven n) h k = absurd k
-same_argument AnyPath word (TextGiven t) b h k = absurd h
-same_argument AnyPath word (NumberGiven n) b h k = absurd h
-same_argument NamedPath word (PathGiven p) (PathGiven q) h k = ap PathGiven (same_path p q h.0.names k.0.names (sym h.2 ∙ k.2))
-same_argument NamedPath word (PathGiven p) (TextGiven t) h k = absurd k
-same_argument NamedPath word (PathGiven p) (NumberGiven n) h k = absurd k
-same_argument NamedPath word (TextGiven t) b h k = absurd h
-same_argument NamedPath word (NumberGiven n) b h k = absurd h
-same_argument SomeText word (TextGiven s) (TextGiven t) h k = ap TextGiven (same_text word s t h.spelled k.spelled)
-same_argument SomeText word (TextGiven s) (PathGiven p) h k = absurd k
-same_argument SomeText word (TextGiven s) (NumberGiven n) h k = absurd k
-same_argument SomeText word (PathGiven p) b h k = absurd h
-same_argument SomeText word (NumberGiven n) b h k = absurd h
-same_argument RestCount word (NumberGiven m) (NumberGiven n) h k = let both : Ok m ≡ Ok n = sym h.0 ∙ k.0 in ap NumberGiven (cc both)
-same_argument RestCount word (NumberGiven m) (PathGiven p) h k = absurd k
-same_argument RestCount word (NumberGiven m) (TextGiven t) h k = absurd k
-same_argument RestCount word (PathGiven p) b h k = absurd h
-same_argument RestCount word (TextGiven t) b h k = absurd h
+same_argument k word a b h i =
+    let x = content_of k word a h in
+    let y = content_of k word b i in
+    x.1 ∙ same_content k word x.0 y.0 (subst (Fits k word) x.1 h) (subst (Fits k word) y.1 i) ∙ sym y.1
 
-same_arguments : (ks : List Kind) (ws : List (List ℕ)) (one other : List Argument) → FitAll ks ws one → FitAll ks ws other → one ≡ other
+pub same_arguments : (ks : List Kind) (ws : List (List ℕ)) (one other : List Argument) → FitAll ks ws one → FitAll ks ws other → one ≡ other
 same_arguments [] [] [] [] h k = refl
 same_arguments [] [] [] (b ∷ bs) h k = absurd k
 same_arguments [] [] (a ∷ one) other h k = absurd h
@@ -153,7 +197,7 @@ same_arguments (x ∷ ks) (w ∷ ws) (a ∷ one) [] h k = absurd k
 same_arguments (x ∷ ks) (w ∷ ws) (a ∷ one) (b ∷ other) h k = cc (same_argument x w a b h.0 k.0, same_arguments ks ws one other h.1 k.1)
 
 -- words that fit have no misfit
-no_misfit : (ks : List Kind) (ws : List (List ℕ)) (given : List Argument) (at n : ℕ) → FitAll ks ws given → IsMisfit ks ws at n → ⊥
+pub no_misfit : (ks : List Kind) (ws : List (List ℕ)) (given : List Argument) (at n : ℕ) → FitAll ks ws given → IsMisfit ks ws at n → ⊥
 no_misfit [] [] given at n h m = m
 no_misfit [] (w ∷ ws) given at n h m = h
 no_misfit (k ∷ ks) [] given at n h m = h
@@ -162,7 +206,7 @@ no_misfit (k ∷ ks) (w ∷ ws) (a ∷ given) at n h (inl m) = m.0 a h.0
 no_misfit (k ∷ ks) (w ∷ ws) (a ∷ given) at n h (inr m) = no_misfit ks ws given (at + 1) n h.1 m.2
 
 -- words have one first misfit at most
-same_misfit : (ks : List Kind) (ws : List (List ℕ)) (at m n : ℕ) → IsMisfit ks ws at m → IsMisfit ks ws at n → m ≡ n
+pub same_misfit : (ks : List Kind) (ws : List (List ℕ)) (at m n : ℕ) → IsMisfit ks ws at m → IsMisfit ks ws at n → m ≡ n
 same_misfit [] [] at m n h k = absurd h
 same_misfit [] (w ∷ ws) at m n h k = h ∙ sym k
 same_misfit (x ∷ ks) [] at m n h k = h ∙ sym k
@@ -172,7 +216,7 @@ same_misfit (x ∷ ks) (w ∷ ws) at m n (inr h) (inl k) = absurd (k.0 h.0 h.1)
 same_misfit (x ∷ ks) (w ∷ ws) at m n (inr h) (inr k) = same_misfit ks ws (at + 1) m n h.2 k.2
 
 -- two lists with the same first two words
-first_is : (ws : List (List ℕ)) (f g m n : List ℕ) (xs ys : List (List ℕ)) → ws ≡ f ∷ m ∷ xs → ws ≡ g ∷ n ∷ ys → (f ≡ g) × (m ≡ n) × (xs ≡ ys)
+pub first_is : (ws : List (List ℕ)) (f g m n : List ℕ) (xs ys : List (List ℕ)) → ws ≡ f ∷ m ∷ xs → ws ≡ g ∷ n ∷ ys → (f ≡ g) × (m ≡ n) × (xs ≡ ys)
 first_is ws f g m n xs ys h k = (cc, cc, cc)
 
 one_command : (line : List ℕ) (c d : Command) → Gives line c → Gives line d → c ≡ d
@@ -233,27 +277,32 @@ agreed line (Err (refusal.Memory e)) (Err refusal.NoCommand) h k = tt
 agreed line (Err (refusal.Memory e)) (Err (refusal.BadWords n)) h k = tt
 agreed line (Err (refusal.Memory e)) (Err (refusal.Memory f)) h k = tt
 
-row_begun : (line family behind name rest : List ℕ) (row : RowName) → words line ≡ family ∷ words behind → words behind ≡ name ∷ words rest → HasWords row family name
-    → words line ≡ (row_named row).family ∷ (row_named row).name ∷ words rest
-row_begun line family behind name rest row first second has = cc (first, second, has.family_is, has.name_is)
+row_begun : (line family name : List ℕ) (rest : List (List ℕ)) (row : RowName) → words line ≡ family ∷ name ∷ rest → HasWords row family name → words line ≡ (row_named row).family ∷ (row_named row).name ∷ rest
+row_begun line family name rest row first has = cc (first, has.family_is, has.name_is)
+
+-- what the words behind those of a row are read as is what the line says
+pub said_by_words : (line family name : List ℕ) (rest : List (List ℕ)) (row : RowName) → IsPrintable line → words line ≡ family ∷ name ∷ rest → HasWords row family name
+    → (r : Result Command WordsRefusal) → MatchResult r (λ c. HasArguments (row_named row) rest c) (λ e. AreRefusedFrom (row_named row).kinds rest 3 e) → Says line r
+said_by_words line family name rest row printable first has (Ok c) h =
+    let begun = row_begun line family name rest row first has in
+    record {
+      printable = printable;
+      arguments = rest;
+      words_are = subst (λ (r : Row). words line ≡ r.family ∷ r.name ∷ rest) (sym h.row_is) begun;
+      fit = subst (λ (r : Row). FitAll r.kinds rest (arguments_of c)) (sym h.row_is) h.fit;
+    }
+said_by_words line family name rest row printable first has (Err refusal.NoCommand) h = absurd h
+said_by_words line family name rest row printable first has (Err (refusal.BadWords n)) h =
+    record {
+      printable = printable;
+      row = row_named row;
+      begins = record { row_is = some_command row; rest = rest; words_are = row_begun line family name rest row first has };
+      misfit = h;
+    }
+said_by_words line family name rest row printable first has (Err (refusal.Memory e)) h = tt
 
 -- what the arguments of a row are read as is what the line says
 pub said_by_row : (line family behind name rest : List ℕ) (row : RowName) → IsPrintable line → words line ≡ family ∷ words behind → words behind ≡ name ∷ words rest → HasWords row family name
     → (r : Result Command WordsRefusal) → MatchResult r (λ c. HasArguments (row_named row) (words rest) c) (λ e. AreRefusedFrom (row_named row).kinds (words rest) 3 e) → Says line r
-said_by_row line family behind name rest row printable first second has (Ok c) h =
-    let begun = row_begun line family behind name rest row first second has in
-    record {
-      printable = printable;
-      arguments = words rest;
-      words_are = subst (λ (r : Row). words line ≡ r.family ∷ r.name ∷ words rest) (sym h.row_is) begun;
-      fit = subst (λ (r : Row). FitAll r.kinds (words rest) (arguments_of c)) (sym h.row_is) h.fit;
-    }
-said_by_row line family behind name rest row printable first second has (Err refusal.NoCommand) h = absurd h
-said_by_row line family behind name rest row printable first second has (Err (refusal.BadWords n)) h =
-    record {
-      printable = printable;
-      row = row_named row;
-      begins = record { row_is = some_command row; rest = words rest; words_are = row_begun line family behind name rest row first second has };
-      misfit = h;
-    }
-said_by_row line family behind name rest row printable first second has (Err (refusal.Memory e)) h = tt
+said_by_row line family behind name rest row printable first second has r h =
+    said_by_words line family name (words rest) row printable (first ∙ ap (λ (ws : List (List ℕ)). family ∷ ws) second) has r h

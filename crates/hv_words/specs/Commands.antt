@@ -1,5 +1,6 @@
 -- The commands: each is a row of two words and some arguments.
 use Rattle.std.specs.Prelude.{◌≡◌, ◌⊎◌, ℕ, ◌+◌, ◌<◌, ◌≤◌, List, [], ◌∷◌, length, codes, Result, Ok, Err, All}
+use Rattle.hv_text.specs.declared.limits.TheConstants.{VCPUS}
 use Rattle.hv_text.specs.Number.{number_of}
 use Rattle.hv_text.specs.Path.{ArePathNames, path_text}
 use Rattle.hv_words.specs.declared.command.Command.{Command}
@@ -9,18 +10,24 @@ use Rattle.hv_words.specs.declared.refusal.WordsRefusal.TheVariants as refusal
 use Rattle.hv_words.specs.Words.{words}
 use Rattle.hv_words.specs.Text.{IsText}
 
--- the kinds of argument: a path, a path of at least one name, a text, and how many steps to rest
+-- the kinds of argument: a path, a path of at least one name, a text, how many steps to rest, a word as it stands,
+-- the number of a VCPU, an address, and how many bytes to show
 pub data Kind : Type 0 where
   AnyPath : Kind
   NamedPath : Kind
   SomeText : Kind
   RestCount : Kind
+  SomeWord : Kind
+  VcpuNumber : Kind
+  AnyAddress : Kind
+  ByteCount : Kind
 
 -- what an argument gives
 pub data Argument : Type 0 where
   PathGiven : List (List ℕ) → Argument
   TextGiven : List ℕ → Argument
   NumberGiven : ℕ → Argument
+  WordGiven : List ℕ → Argument
 
 -- a row has its family, its name, and the kinds of its arguments
 pub record Row : Type 0 where
@@ -39,6 +46,10 @@ Fits AnyPath word (PathGiven path) = IsCommandPath path × (word ≡ path_text p
 Fits NamedPath word (PathGiven path) = IsCommandPath path × (0 < length path) × (word ≡ path_text path)
 Fits SomeText word (TextGiven bytes) = IsText word bytes
 Fits RestCount word (NumberGiven n) = (number_of word ≡ Ok n) × (1 ≤ n) × (n ≤ 10000)
+Fits SomeWord word (WordGiven given) = given ≡ word
+Fits VcpuNumber word (NumberGiven n) = (number_of word ≡ Ok n) × (n < VCPUS)
+Fits AnyAddress word (NumberGiven n) = number_of word ≡ Ok n
+Fits ByteCount word (NumberGiven n) = (number_of word ≡ Ok n) × (1 ≤ n) × (n ≤ 256)
 Fits _ word _ = ⊥
 
 -- words are arguments of these kinds, one for each, and give these

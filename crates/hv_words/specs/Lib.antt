@@ -6,6 +6,7 @@ pub mod Spelled
 pub mod Commands
 pub mod Rows
 pub mod Arguments
+pub mod Said
 pub mod Print
 pub use Rattle.hv_text.specs.Lines
 pub use Rattle.hv_text.specs.Number

@@ -15,12 +15,16 @@ mod script;
 mod text;
 mod word;
 
+pub use argument::read_path;
 pub use command::Command;
-pub use print::print_command;
-pub use read::{lines_are_unambiguous, read_command};
+pub use print::{print_command, push_text};
+pub use read::{
+    is_printable, lines_are_unambiguous, lines_say_what_is_told, read_command, read_end,
+};
 pub use refusal::WordsRefusal;
 pub use script::{Script, count_lines};
-pub use word::is_skipped_line;
+pub use text::read_text;
+pub use word::{is_skipped_line, next_word};
 
 #[cfg(test)]
 mod tests;

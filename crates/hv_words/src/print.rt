@@ -28,7 +28,8 @@ fn push_byte(to: &mut Bytes, byte: u8) -> Result<(), AllocError>
     to.append(&[b'\\', b'x', hex_digit(byte / 16), hex_digit(byte % 16)])
 }
 
-fn push_text(to: &mut Bytes, bytes: &[u8]) -> Result<(), AllocError>
+/// Writes bytes as a text that spells them.
+pub fn push_text(to: &mut Bytes, bytes: &[u8]) -> Result<(), AllocError>
     ensures { OnOk result (to.new ≡ to.old ++ flat_map byte_text bytes.now) }
 {
     for byte in bytes {

@@ -1,11 +1,13 @@
 //! Lines read as commands.
-ghost use Rattle.std.specs.Prelude.{◌≡◌, ◌↔◌, ◌≤◌, ℕ, List, [], ◌∷◌, IsTrue, Result, Ok, Err, MatchResult};
+ghost use Rattle.std.specs.Prelude.{◌≡◌, ◌≢◌, ◌↔◌, ◌≤◌, ℕ, List, [], ◌∷◌, IsTrue, Result, Ok, Err, MatchResult};
+ghost use Rattle.std.specs.declared.alloc.AllocError.{AllocError};
 ghost use Rattle.hv_words.specs.declared.command.Command.{Command};
 ghost use Rattle.hv_words.specs.declared.refusal.WordsRefusal.{WordsRefusal};
 ghost use Rattle.hv_words.specs.Words.{words};
 ghost use Rattle.hv_words.specs.Commands.{FitAll, AnyPath, NamedPath, SomeText, RestCount, PathGiven, TextGiven, NumberGiven, IsPrintable, Says, Gives, IsNoCommand, HasBadWord};
 ghost use Rattle.hv_words.specs.Rows.{row_named};
 ghost use Rattle.hv_words.specs.Arguments.{Agree, AreRefusedFrom, HasArguments, IsUnlessMemory};
+ghost use Rattle.hv_words.specs.Said.{said};
 
 use crate::argument::{read_count, read_named_path, read_path};
 use crate::command::Command;
@@ -19,14 +21,15 @@ use std::alloc::Global;
 /// The number of the first word behind a row's two.
 const FIRST_ARGUMENT: usize = 3;
 
-fn is_printable(line: &[u8]) -> bool
+/// Whether every byte of a line is a space or a printable character.
+pub fn is_printable(line: &[u8]) -> bool
     ensures { IsTrue result ↔ IsPrintable line.now }
 {
     line.iter().all(|byte| matches!(*byte, b' '..=b'~'))
 }
 
 /// Nothing but spaces, where the word of this number would stand.
-fn read_end(text: &[u8], at: usize) -> Result<(), WordsRefusal>
+pub fn read_end(text: &[u8], at: usize) -> Result<(), WordsRefusal>
     ensures { MatchResult result
         (λ _. words text.now ≡ [])
         (λ refusal. AreRefusedFrom [] (words text.now) at refusal) }
@@ -175,4 +178,12 @@ pub fn read_command(alloc: Global, line: &[u8]) -> Result<Command, WordsRefusal>
 pub fn lines_are_unambiguous()
     ensures { (line : List ℕ) (one other : Result Command WordsRefusal)
         → Says line one → Says line other → Agree one other }
+{}
+
+/// A line says what the function tells of it, and nothing else unless memory ran out.
+pub fn lines_say_what_is_told()
+    ensures exact { (line : List ℕ) (read : Result Command WordsRefusal)
+        → Says line read ↔ IsUnlessMemory read (said line) }
+    ensures definite { (line : List ℕ) (e : AllocError)
+        → said line ≢ Err (WordsRefusal.Memory e) }
 {}

@@ -56,6 +56,7 @@ fn short(alloc: Global, line: &[u8]) -> &'static str {
 #[test]
 fn reads_each_row_and_its_refusals(rt: HostRuntime) {
     lines_are_unambiguous();
+    lines_say_what_is_told();
     for (line, said) in [
         (b"vfs ls /".as_slice(), "ls"),
         (b"  vfs   cat /a/b  ".as_slice(), "cat"),
