@@ -62,7 +62,7 @@ closed-legal O logs entries boot own all closed =
     let InRange : List Entry → Type 0 = AllByRecursion (λ e. e.event.stamp ≤ GREATEST_STAMP) in
     let events = λ (es : List Entry). map (λ (e : Entry). e.event) es in
     let Ended : TerminalState → Type 0 = IsAtBootEnd in
-    let Within : TerminalState → Type 0 = λ t. t.own ≡ own_at_start O 0 in
+    let Within : TerminalState → Type 0 = λ t. t.session.own ≡ own_at_start O 0 in
     let same = ap (λ h. h.value) (sym parts.booted) in (
       reached O boot parts.later,
       record {
@@ -89,7 +89,7 @@ rounds-legal O H rounds =
     let boots : state_after m (start O) rounds.boot first ≡ fold_at rules first (start O first) rounds.boot =
     (two-part m rank_of is_actor first (has-actors O) refl (start O) logs entries rounds.boot own rounds.all began rounds.merged).booted in
     let Ended : TerminalState → Type 0 = IsAtBootEnd in
-    let Within : TerminalState → Type 0 = λ t. t.own ≡ own_at_start O 0 in
+    let Within : TerminalState → Type 0 = λ t. t.session.own ≡ own_at_start O 0 in
     let same = ap (λ h. h.value) boots in
     let Is : List Event → Type 0 = Legal O in
     subst Is rounds.events

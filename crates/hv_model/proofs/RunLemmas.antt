@@ -23,11 +23,13 @@ abbrev pub InRange : List Entry → Type 0
 InRange es = AllByRecursion (λ e. e.event.stamp ≤ GREATEST_STAMP) es
 
 -- a fact on all events that were made is one on the merged list
-pub in-range-merged : (O : Origin) (made all : List Entry) → IsMerged (machine O) rank_of (logs_of O made) all → InRange made → InRange all
-in-range-merged O made all merged range =
-    let P : Entry → Type 0 = λ e. e.event.stamp ≤ GREATEST_STAMP in
+pub all-merged : (O : Origin) (P : Entry → Type 0) (made all : List Entry) → IsMerged (machine O) rank_of (logs_of O made) all → AllByRecursion P made → AllByRecursion P all
+all-merged O P made all merged each =
     let Of : List Entry → Type 0 = AllByRecursion P in
-    all-by (machine O) P all (λ a. subst Of (sym (merged.whole a)) (all-filter P (λ e. (machine O).same a ((machine O).actor e)) made range))
+    all-by (machine O) P all (λ a. subst Of (sym (merged.whole a)) (all-filter P (λ e. (machine O).same a ((machine O).actor e)) made each))
+
+pub in-range-merged : (O : Origin) (made all : List Entry) → IsMerged (machine O) rank_of (logs_of O made) all → InRange made → InRange all
+in-range-merged O made all merged range = all-merged O (λ e. e.event.stamp ≤ GREATEST_STAMP) made all merged range
 
 abbrev parts_of : (O : Origin) (boot made all : List Entry) → IsTwoPart (machine O) is_actor first (start O) boot made → IsMerged (machine O) rank_of (logs_of O (boot ++ made)) all
     → IsTwoPartRun (machine O) is_actor first (start O) (λ x. events_at (machine O) x (boot ++ made)) boot all
@@ -36,7 +38,7 @@ parts_of O boot made all parts merged =
     boot (events_by (machine O) first made) all (began-of-two-part (machine O) rank_of is_actor first (has-actors O) refl (start O) boot made parts) merged
 
 run-of : (O : Origin) (boot made all : List Entry) (parts : IsTwoPart (machine O) is_actor first (start O) boot made)
-    (merged : IsMerged (machine O) rank_of (logs_of O (boot ++ made)) all) → InRange (boot ++ made) → (booted O boot first).value.own ≡ own_at_start O 0
+    (merged : IsMerged (machine O) rank_of (logs_of O (boot ++ made)) all) → InRange (boot ++ made) → (booted O boot first).value.session.own ≡ own_at_start O 0
     → IsRunOf O (map (λ e. e.event) all) boot (parts_of O boot made all parts merged).later
 run-of O boot made all parts merged range within =
     let whole = (parts_of O boot made all parts merged).whole in
@@ -53,7 +55,7 @@ run-of O boot made all parts merged range within =
 
 -- a run whose boot script has ended
 pub made-leads : (O : Origin) (boot made all : List Entry) → IsTwoPart (machine O) is_actor first (start O) boot made → IsMerged (machine O) rank_of (logs_of O (boot ++ made)) all
-    → InRange (boot ++ made) → (booted O boot first).value.own ≡ own_at_start O 0 → IsAtBootEnd (booted O boot first).value
+    → InRange (boot ++ made) → (booted O boot first).value.session.own ≡ own_at_start O 0 → IsAtBootEnd (booted O boot first).value
     → Leads O (map (λ e. e.event) all) (state_after (machine O) (begun O boot) made)
 made-leads O boot made all parts merged range within at_end =
     let later = (parts_of O boot made all parts merged).later in
@@ -76,7 +78,7 @@ append-cancel (x ∷ xs) ys e = append-cancel xs ys (cc)
 
 -- a run that stopped within its boot script
 pub boot-leads : (O : Origin) (boot all : List Entry) → IsTwoPart (machine O) is_actor first (start O) boot [] → IsMerged (machine O) rank_of (logs_of O (boot ++ [])) all
-    → InRange (boot ++ []) → (booted O boot first).value.own ≡ own_at_start O 0 → (IsAtBootEnd (booted O boot first).value → ⊥)
+    → InRange (boot ++ []) → (booted O boot first).value.session.own ≡ own_at_start O 0 → (IsAtBootEnd (booted O boot first).value → ⊥)
     → Leads O (map (λ e. e.event) all) (booted O boot)
 boot-leads O boot all parts merged range within not_at_end =
     let m = machine O in

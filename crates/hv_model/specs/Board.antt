@@ -19,7 +19,7 @@ terminal_booted O boot = (fold_at rules first (start O first) boot).value
 pub record IsClosed (O : Origin) (logs entries : Cell → List Entry) (boot own all : List Entry) : Type 0 where
   pub began : Began (machine O) is_actor first (start O) logs entries boot own
   pub boot_ended : IsAtBootEnd (terminal_booted O boot)
-  pub within : (terminal_booted O boot).own ≡ own_at_start O 0
+  pub within : (terminal_booted O boot).session.own ≡ own_at_start O 0
   pub merged : IsMerged (machine O) rank_of logs all
   pub in_range : AllByRecursion (λ e. e.event.stamp ≤ GREATEST_STAMP) all
 

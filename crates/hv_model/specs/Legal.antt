@@ -21,7 +21,8 @@ use Rattle.hv_space.specs.Space.{no_windows}
 use Rattle.hv_vcpu.specs.Vcpu.{VcpuValue, unknown}
 use Rattle.hv_model.specs.Files.{FileMap, load_files}
 use Rattle.hv_model.specs.Hart.{hart_at_start, HasMade}
-use Rattle.hv_model.specs.Terminal.{TerminalState, Scripts, IsAtBootEnd, IsAtEnd}
+use Rattle.hv_model.specs.Session.{Scripts, Session}
+use Rattle.hv_model.specs.Terminal.{TerminalState, IsAtBootEnd, IsAtEnd}
 use Rattle.hv_model.specs.Rules.{Value, machine}
 
 -- Terminal 0 begins with the boot script, the others with none.
@@ -40,10 +41,15 @@ lines_among scripts t =
 abbrev pub lines_at_start : Origin → ℕ → ℕ
 lines_at_start O t = lines_among O.opening.scripts t
 
--- A terminal at the start has made nothing, and has its commands before it.
+-- A session at the start is at no line, and has all its commands before it.
+abbrev pub session_at_start : Origin → ℕ → Session
+session_at_start O t =
+    record { line = None; boot = boot_at_start O t; own = own_at_start O t; lines = lines_at_start O t }
+
+-- A terminal at the start has made nothing, and owes nothing.
 abbrev pub terminal_at_start : Origin → ℕ → TerminalState
 terminal_at_start O t =
-    record { count = 0; rests = 0; boot = boot_at_start O t; own = own_at_start O t; lines = lines_at_start O t }
+    record { count = 0; owed = []; session = session_at_start O t; plans = O.opening.plans }
 
 -- The orphan VCPU, which balances, begins Reset with its own plan; no other is there.
 abbrev pub orphan : VcpuValue
@@ -103,7 +109,7 @@ module _ (O : Origin) where
     -- Terminal 0 made the boot part alone, and each part is a run
     pub parts : IsTwoPart (machine O) is_actor first (start O) boot later
     -- the boot part has none of Terminal 0's own commands
-    pub within : (booted boot first).value.own ≡ own_at_start O 0
+    pub within : (booted boot first).value.session.own ≡ own_at_start O 0
 
   -- The parts lead to a state: that of the whole once the boot script has ended, and before that nothing is later.
   pub record LeadTo (boot later : List Entry) (s : State (machine O)) : Type 0 where

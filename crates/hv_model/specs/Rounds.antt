@@ -1,5 +1,5 @@
 -- Rounds: each actor that is not at its end makes one step, the harts first and each kind by number.
-use Rattle.std.specs.Prelude.{◌≡◌, ℕ, ◌≤◌, ◌&&◌, Bool, true, false, if◌then◌else◌, ◌==◌, Option, Some, None, List, [], ◌∷◌, ◌++◌, map}
+use Rattle.std.specs.Prelude.{◌≡◌, ◌≤◌, ◌&&◌, Bool, if◌then◌else◌, Option, Some, None, List, [], ◌∷◌, ◌++◌, map}
 use Rattle.std.specs.List.{AllByRecursion, range_with_len}
 use Rattle.hv_text.specs.declared.limits.TheConstants.{GREATEST_STAMP}
 use Rattle.hv_machine.specs.Machine.{State, events_by, next_state}
@@ -11,19 +11,15 @@ use Rattle.hv_event.specs.declared.event.Event.{Event}
 use Rattle.hv_model.specs.Origin.{Origin, terminals}
 use Rattle.hv_model.specs.Cell.{Actor, is_actor, rank_of}
 use Rattle.hv_model.specs.Entry.{Entry}
-use Rattle.hv_model.specs.Terminal.{TerminalState, Scripts, next_in, IsAtBootEnd}
+use Rattle.hv_model.specs.Session.{has_ended as session_has_ended}
+use Rattle.hv_model.specs.Terminal.{TerminalState, owes_nothing, IsAtBootEnd}
 use Rattle.hv_model.specs.Rules.{machine}
 use Rattle.hv_model.specs.Hart.{hart_has_ended}
 use Rattle.hv_model.specs.Legal.{first, start, own_at_start, booted, begun, Legal}
 
--- Whether no command is next.
-abbrev pub is_over : Option (List ℕ × Scripts) → Bool
-is_over None = true
-is_over (Some n) = false
-
--- Whether a terminal's line is done and no command is left.
+-- Whether a terminal owes nothing, its line is done and no command is left.
 abbrev pub terminal_has_ended : TerminalState → Bool
-terminal_has_ended t = (t.rests == 0) && (is_over (next_in t.boot) && is_over (next_in t.own))
+terminal_has_ended t = owes_nothing t.owed && session_has_ended t.session
 
 -- A round goes through the harts and then the terminals, by number.
 abbrev pub order_of : Origin → List ActorId
@@ -62,7 +58,7 @@ module _ (O : Origin) where
     pub all : List Entry
     pub parts : IsTwoPart (machine O) is_actor first (start O) boot made
     pub boot_ended : IsAtBootEnd (booted O boot first).value
-    pub within : (booted O boot first).value.own ≡ own_at_start O 0
+    pub within : (booted O boot first).value.session.own ≡ own_at_start O 0
     pub turns : TakesTurns (begun O boot) [] made
     pub merged : IsMerged (machine O) rank_of (λ a. events_by (machine O) a (boot ++ made)) all
     pub events : map (λ e. e.event) all ≡ H

@@ -70,7 +70,7 @@ apply_at (Component (component.Vcpu vcpu)) v e = vcpu_after e.event.actor v e.ev
 apply_at (Component (component.Body slot row)) body e = body_after row body e.event.step e.event.reply e.carry
 apply_at (Component (component.Area area)) bytes e = area_after bytes e.event.step e.event.reply e.carry
 apply_at (Actor (Hart h)) hart e = hart_after hart e
-apply_at (Actor (Terminal t)) s e = terminal_after s e.event
+apply_at (Actor (Terminal t)) s e = terminal_after s e
 
 -- The rules don't depend on what a run begins with.
 abbrev pub rules : Rules

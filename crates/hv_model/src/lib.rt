@@ -10,5 +10,8 @@ mod laws;
 mod opening;
 
 pub use entry::{Carry, Entry};
-pub use laws::{a_history_has_one_report, closed_board_is_legal, hello_example, rounds_are_legal};
+pub use laws::{
+    a_history_has_one_report, closed_board_is_legal, hello_example, lines_on_guests_go_on,
+    rounds_are_legal,
+};
 pub use opening::Opening;

@@ -13,7 +13,10 @@ use Rattle.hv_model.specs.declared.entry.Entry.{Entry}
 use Rattle.hv_model.specs.Origin.{Origin}
 use Rattle.hv_model.specs.Cell.{Cell, Component, Actor, same_cell, same_actor}
 use Rattle.hv_model.specs.Files.{FilesAgree, files_after}
-use Rattle.hv_model.specs.Terminal.{TerminalState, TerminalAgrees, terminal_after}
+use Rattle.hv_answer.specs.declared.reply.Reply.{Reply}
+use Rattle.hv_rules.specs.Carry.{Carry}
+use Rattle.hv_model.specs.Plans.{Planned}
+use Rattle.hv_model.specs.Terminal.{TerminalState, TerminalAgrees, terminal_after, owed_after}
 use Rattle.hv_model.proofs.BoardLemmas.{touch-actor}
 use Rattle.hv_model.specs.Rules.{machine, components_of, IsAllowedAt}
 use Rattle.hv_rules.specs.Footprint.{components}
@@ -66,6 +69,31 @@ part-of harts old new own e (step.Rest s) h = leaves refl refl h
 part-of harts old new own e (step.Bad s) h = leaves refl refl h
 part-of harts old new own e st h = absurd h
 
+-- such a step owes no other
+owed-none : (plans : List Planned) (old new : FileCell) (own : ℕ) (e : Entry) (st : Step) (r : Reply) (c : Carry) → FilesPart st old new own e → owed_after plans st r c ≡ []
+owed-none plans old new own e (step.Ls s) r c h = refl
+owed-none plans old new own e (step.Cat s) r c h = refl
+owed-none plans old new own e (step.Dts s) r c h = refl
+owed-none plans old new own e (step.Run s) r c h = refl
+owed-none plans old new own e (step.Mkdir s) r c h = refl
+owed-none plans old new own e (step.Rm s) r c h = refl
+owed-none plans old new own e (step.Write s) r c h = refl
+owed-none plans old new own e (step.Asm s) r c h = refl
+owed-none plans old new own e (step.Rest s) r c h = refl
+owed-none plans old new own e (step.Bad s) r c h = refl
+owed-none plans old new own e st r c h = absurd h
+
+after-value : (plans : List Planned) (old new : FileCell) (t t' : TerminalCell) (e : Entry) → IsStep old new t t' e
+    → terminal_after (value_of plans t) e ≡ value_of plans t'
+after-value plans old new t t' e step =
+    let none = owed-none plans old new t.stamp e e.event.step e.event.reply e.carry step.files in
+    λ i. record {
+      count = (sym step.count) i;
+      owed = none i;
+      session = (sym (step.session plans e.carry)) i;
+      plans = plans;
+    }
+
 module _ (O : Origin) (s : State (machine O)) (b b' : Board) (t : ℕ) (e : Entry) (d : TerminalCell) (below : t < 4)
     (holds : Holds O s b) (made : IsBoardStep b b' t e) where
   abbrev m : Machine
@@ -90,7 +118,7 @@ module _ (O : Origin) (s : State (machine O)) (b b' : Board) (t : ℕ) (e : Entr
   part = part-of O.opening.harts b.files b'.files here.stamp e e.event.step step_is.files
 
   own-agrees : IsAllowedAt (Actor (Terminal t)) (s (Actor (Terminal t))).value e
-  own-agrees = subst (λ (v : TerminalState). TerminalAgrees v e) (sym (holds.terminals t d below)) step_is.agrees
+  own-agrees = subst (λ (v : TerminalState). TerminalAgrees v e) (sym (holds.terminals t d below)) (step_is.agrees O.opening.plans)
 
   -- the cells of a step
   abbrev AgreedBy : ActorId → List CellId → Type 0
@@ -146,10 +174,11 @@ module _ (O : Origin) (s : State (machine O)) (b b' : Board) (t : ℕ) (e : Entr
   hart-touched : (h : ℕ) → touches m (Actor (Hart h)) e ≡ false
   hart-touched h = touch-actor O e (Hart h) ∙ ap (same_actor (Hart h)) actor-is
 
-  own-value : (x : TerminalCell) → (next_state m s e (Actor (Terminal t))).value ≡ value_of (at b' t x)
+  own-value : (x : TerminalCell) → (next_state m s e (Actor (Terminal t))).value ≡ value_of O.opening.plans (at b' t x)
   own-value x =
       let changed = next-touched m s e (Actor (Terminal t)) own-touched in
-      ap (λ k. k.value) changed ∙ ap (λ v. terminal_after v e.event) (holds.terminals t x below) ∙ sym (made.step x).after
+      ap (λ k. k.value) changed ∙ ap (λ v. terminal_after v e) (holds.terminals t x below)
+      ∙ after-value O.opening.plans b.files b'.files (at b t x) (at b' t x) e (made.step x)
 
   own-stamp-next : (x : TerminalCell) → (next_state m s e (Actor (Terminal t))).stamp ≡ (at b' t x).stamp
   own-stamp-next x = ap (λ k. k.stamp) (next-touched m s e (Actor (Terminal t)) own-touched) ∙ sym (made.step x).stamp
@@ -159,11 +188,11 @@ module _ (O : Origin) (s : State (machine O)) (b b' : Board) (t : ℕ) (e : Entr
     files = files-next.0;
     files_stamp = files-next.1;
     terminals = λ u x lt.
-        let Goal : Bool → Type 0 = λ same. eqb u t ≡ same → (next_state m s e (Actor (Terminal u))).value ≡ value_of (at b' u x) in
+        let Goal : Bool → Type 0 = λ same. eqb u t ≡ same → (next_state m s e (Actor (Terminal u))).value ≡ value_of O.opening.plans (at b' u x) in
         elim (eqb u t) as Goal [
-          | true ↦ λ same. let is : u ≡ t = eqb-is u t same in subst (λ (v : ℕ). (next_state m s e (Actor (Terminal v))).value ≡ value_of (at b' v x)) (sym is) (own-value x)
+          | true ↦ λ same. let is : u ≡ t = eqb-is u t same in subst (λ (v : ℕ). (next_state m s e (Actor (Terminal v))).value ≡ value_of O.opening.plans (at b' v x)) (sym is) (own-value x)
           | false ↦ λ apart.
-              ap (λ k. k.value) (next-untouched m s e (Actor (Terminal u)) (other-touched u (eqb-apart u t apart))) ∙ holds.terminals u x lt ∙ ap value_of (sym (made.others u x (eqb-apart u t apart)))
+              ap (λ k. k.value) (next-untouched m s e (Actor (Terminal u)) (other-touched u (eqb-apart u t apart))) ∙ holds.terminals u x lt ∙ ap (value_of O.opening.plans) (sym (made.others u x (eqb-apart u t apart)))
         ] refl;
     stamps = λ u x lt.
         let Goal : Bool → Type 0 = λ same. eqb u t ≡ same → (next_state m s e (Actor (Terminal u))).stamp ≡ (at b' u x).stamp in

@@ -1,6 +1,6 @@
 -- What a closed board leaves.
-use Rattle.std.proofs.Common.{◌≡◌, ℕ, zero, suc, ◌<◌, ◌≤◌, max, Bool, true, false, ◌&&◌, eqb, eqb-true, eq-eqb, inl, inr, ◌⊎◌, Option, Some, None, Result, Ok, Err, List, [], ◌∷◌, ◌++◌, map, filter, cond, length, refl, ap, sym, subst, ◌∙◌, arith}
-use Rattle.std.specs.Prelude.{slice_index_or, Any, IfOk}
+use Rattle.std.proofs.Common.{◌≡◌, ℕ, zero, suc, ◌<◌, ◌≤◌, max, Bool, true, false, ◌&&◌, inl, inr, ◌⊎◌, Option, Some, None, Result, Ok, Err, List, [], ◌∷◌, ◌++◌, map, filter, cond, length, refl, ap, sym, subst, ◌∙◌, arith}
+use Rattle.std.specs.Prelude.{slice_index_or, Any, IfOk, is_none}
 use Rattle.std.specs.List.{AllByRecursion, range_with_len}
 use Rattle.std.proofs.lemmas.Bool.{cases_lt}
 use Rattle.hv_text.specs.declared.limits.TheConstants.{GREATEST_STAMP}
@@ -16,23 +16,26 @@ use Rattle.hv_model.specs.declared.entry.Entry.{Entry}
 use Rattle.hv_model.specs.Origin.{Origin, terminals}
 use Rattle.hv_model.specs.Cell.{Component, Actor, is_actor, same_actor}
 use Rattle.hv_model.specs.CellLaws.{same_actor-self}
-use Rattle.hv_model.specs.Terminal.{TerminalState, next_in, IsAtBootEnd, IsAtEnd}
+use Rattle.hv_model.specs.Session.{Session, next_in, HasBooted, HasEnded, has_ended}
+use Rattle.hv_model.specs.Terminal.{TerminalState, IsAtBootEnd, IsAtEnd}
 use Rattle.hv_model.specs.Hart.{HasMade, hart_at_start}
 use Rattle.hv_model.specs.Rules.{machine}
-use Rattle.hv_model.specs.Legal.{first, start, own_at_start, terminal_at_start, booted, begun, Leads, IsComplete}
+use Rattle.hv_model.specs.Legal.{first, start, own_at_start, booted, begun, Leads, IsComplete}
 use Rattle.hv_model.specs.Legal.{IsSpent as IsSpentIn}
-use Rattle.hv_model.specs.Rounds.{TakesTurns, terminal_has_ended, is_over}
-use Rattle.hv_model.specs.Report.{events_of, IsTranscript, AreTranscripts}
-use Rattle.hv_model.proofs.RunLemmas.{made-leads, boot-leads, in-range-merged}
+use Rattle.hv_model.specs.Rounds.{TakesTurns}
+use Rattle.hv_model.specs.Report.{events_of, told_at_start, AreTranscripts}
+use Rattle.hv_model.specs.Transcript.{IsTranscript, asked_among}
+use Rattle.hv_model.proofs.RunLemmas.{made-leads, boot-leads, all-merged, in-range-merged}
+use Rattle.hv_model.specs.States.{ArePlain, led_to}
 use Rattle.hv_rounds.specs.declared.terminal.Terminal.{Terminal as TerminalCell}
 use Rattle.hv_rounds.specs.declared.board.Board.{Board}
 use Rattle.hv_rounds.specs.declared.whole.Outcome.{Outcome}
-use Rattle.hv_rounds.specs.Cells.{value_of}
+use Rattle.hv_rounds.specs.Cells.{session_of, value_of}
 use Rattle.hv_rounds.specs.Board.{at, Goes, Holds, IsHeld, IsByTerminal, FoundLast, EndedFrom}
 use Rattle.hv_rounds.specs.Phase.{BootPart, BootEnds, RoundsEnd, IsBooted}
 use Rattle.hv_rounds.specs.Close.{logs_of, Closes}
 use Rattle.hv_rounds.specs.Outcome.{IsFinished, IsSpent, IsOutcome}
-use Rattle.hv_rounds.proofs.PhaseLemmas.{terminal_of, four-items, over-none, and-both}
+use Rattle.hv_rounds.proofs.PhaseLemmas.{terminal_of, four-items, is-none, and-both}
 use Rattle.hv_rounds.proofs.Merged.{MergedEntries, merged-entries, own-in-merged, entries_by, by-here, by-other}
 use Rattle.hv_rounds.proofs.Wholes.{goes-logs}
 
@@ -95,6 +98,19 @@ held-in-merged O es H n m found =
     let There : List Event → Type 0 = Any Is in
     subst There m.events (any-has Is (map (λ e. e.event) m.all) (has-map Is (λ e. e.event) m.all all))
 
+-- no event changes a VCPU
+all-events : (P : Event → Type 0) (es : List Entry) → AllByRecursion (λ e. P e.event) es → AllByRecursion P (map (λ (e : Entry). e.event) es)
+all-events P [] h = tt
+all-events P (e ∷ es) h = (h.0, all-events P es h.1)
+
+plain-merged : (O : Origin) (es : List Entry) (H : List Event) → MergedEntries O es H → AllByRecursion IsByTerminal es → ArePlain H
+plain-merged O es H m by =
+    let Plain : Event → Type 0 = λ e. led_to e.actor e.step e.reply ≡ None in
+    let Made : Entry → Type 0 = λ e. Plain e.event in
+    let each : AllByRecursion Made es = all-map IsByTerminal Made (λ e b. b.plain) es by in
+    let All : List Event → Type 0 = AllByRecursion Plain in
+    subst All m.events (all-events Plain m.all (all-merged O Made es m.all m.merged each))
+
 -- the last stamp was made
 
 max-one : (x y : ℕ) → (max x y ≡ x) ⊎ (max x y ≡ y)
@@ -115,19 +131,23 @@ found-made O s before made b n g found =
 
 -- ends
 
-at-end : (t : TerminalState) → terminal_has_ended t ≡ true → IsAtEnd t
-at-end t is =
-    let both = and-both (eqb t.rests 0) (is_over (next_in t.boot) && is_over (next_in t.own)) is in
-    let scripts = and-both (is_over (next_in t.boot)) (is_over (next_in t.own)) both.1 in
-    record { rests = eqb-true t.rests 0 both.0; boot = over-none (next_in t.boot) scripts.0; own = over-none (next_in t.own) scripts.1 }
+at-end : (t : TerminalState) → t.owed ≡ [] → has_ended t.session ≡ true → IsAtEnd t
+at-end t owed is =
+    let s = t.session in
+    let both = and-both (is_none s.line) (is_none (next_in s.boot) && is_none (next_in s.own)) is in
+    let scripts = and-both (is_none (next_in s.boot)) (is_none (next_in s.own)) both.1 in
+    record {
+      owed = owed;
+      ended = record { line = is-none s.line both.0; boot = is-none (next_in s.boot) scripts.0; own = is-none (next_in s.own) scripts.1 };
+    }
 
 -- what is at its end has ended
-ended-at : (t : TerminalState) → IsAtEnd t → terminal_has_ended t ≡ true
-ended-at t end =
-    let rests : eqb t.rests 0 ≡ true = eq-eqb t.rests 0 end.rests in
-    let boot : is_over (next_in t.boot) ≡ true = ap is_over end.boot in
-    let own : is_over (next_in t.own) ≡ true = ap is_over end.own in
-    rw rests (rw boot own)
+ended-at : (s : Session) → HasEnded s → has_ended s ≡ true
+ended-at s end =
+    let line : is_none s.line ≡ true = ap is_none end.line in
+    let boot : is_none (next_in s.boot) ≡ true = ap is_none end.boot in
+    let own : is_none (next_in s.own) ≡ true = ap is_none end.own in
+    rw line (rw boot own)
 
 -- a step that a board has stopped is due in the state that the board holds
 spent-in : (O : Origin) (s : State (machine O)) (b : Board) (n : ℕ) → Holds O s b → FoundLast b n → IsSpentIn O s
@@ -138,7 +158,7 @@ spent-in O s b n holds found =
       terminal = t;
       is_one = found.is_one;
       due = λ end.
-          (let ended : terminal_has_ended (value_of (at b t d)) ≡ true = ended-at (value_of (at b t d)) (subst IsAtEnd (holds.terminals t d found.is_one) end) in
+          (let ended : has_ended (session_of (at b t d)) ≡ true = ended-at (session_of (at b t d)) (subst IsAtEnd (holds.terminals t d found.is_one) end).ended in
           let left = found.left d in
           absurd (cc));
       found = ap (λ (k : ℕ). max k (s (Component component.Files)).stamp) (holds.stamps t d found.is_one)
@@ -153,7 +173,7 @@ all-four : (P : ℕ → Type 0) → P 0 → P 1 → P 2 → P 3 → AllByRecursi
 all-four P a b c d = (a, (b, (c, (d, tt))))
 
 four-transcripts : (O : Origin) (H : List Event) (xs : List TerminalCell) → length xs ≡ 4
-    → ((t : ℕ) (d : TerminalCell) → t < 4 → IsTranscript (terminal_at_start O t) (events_of t H) (slice_index_or xs t d).shown)
+    → ((t : ℕ) (d : TerminalCell) → t < 4 → IsTranscript O.opening.plans (told_at_start O t) (asked_among (events_of t H)) (slice_index_or xs t d).shown)
     → AreTranscripts O H terminals (map (λ x. x.shown) xs)
 four-transcripts O H [] four h = absurd (omega arith)
 four-transcripts O H (x ∷ []) four h = absurd (omega arith)
@@ -163,11 +183,11 @@ four-transcripts O H (x ∷ y ∷ z ∷ w ∷ []) four h = (h 0 x (omega arith),
 four-transcripts O H (x ∷ y ∷ z ∷ w ∷ v ∷ xs) four h = absurd (omega arith)
 
 module _ (O : Origin) (boot : List Entry) (b : Board) (p : BootPart O boot b) where
-  boot-value : (d : TerminalCell) → (booted O boot first).value ≡ value_of (at b 0 d)
+  boot-value : (d : TerminalCell) → (booted O boot first).value ≡ value_of O.opening.plans (at b 0 d)
   boot-value d = p.goes.holds.terminals 0 d (omega arith)
 
-  boot-within : (booted O boot first).value.own ≡ own_at_start O 0
-  boot-within = let d = terminal_of b in ap (λ (v : TerminalState). v.own) (boot-value d) ∙ p.own d
+  boot-within : (booted O boot first).value.session.own ≡ own_at_start O 0
+  boot-within = let d = terminal_of b in ap (λ (v : TerminalState). v.session.own) (boot-value d) ∙ p.own d
 
   boot-alone : AllByRecursion (λ e. (machine O).actor e ≡ first) boot
   boot-alone = all-map (λ (e : Entry). e.event.actor ≡ Terminal 0) (λ (e : Entry). (machine O).actor e ≡ first) (λ e h. ap Actor h) boot p.alone
@@ -176,7 +196,7 @@ module _ (O : Origin) (boot : List Entry) (b : Board) (p : BootPart O boot b) wh
   boot-logs = let Logs : List Entry → Type 0 = λ es. AreLogs (logs_of es) in subst Logs (sym (append-nothing boot)) (goes-logs O (start O) [] boot b p.goes)
 
   -- a run that was stopped in the boot script
-  pub spent-boot : (b' : Board) (n : ℕ) (o : Outcome) → ((d : TerminalCell) → IsAtBootEnd (value_of (at b 0 d)) → ⊥) → b'.files ≡ b.files → FoundLast b n → Closes b' (boot ++ []) (Some n) o → IsSpent O o n
+  pub spent-boot : (b' : Board) (n : ℕ) (o : Outcome) → ((d : TerminalCell) → HasBooted (session_of (at b 0 d)) → ⊥) → b'.files ≡ b.files → FoundLast b n → Closes b' (boot ++ []) (Some n) o → IsSpent O o n
   spent-boot b' n o not_end files found c =
       let same : boot ++ [] ≡ boot = append-nothing boot in
       let By : List Entry → Type 0 = AllByRecursion IsByTerminal in
@@ -185,7 +205,7 @@ module _ (O : Origin) (boot : List Entry) (b : Board) (p : BootPart O boot b) wh
       let merged = merged-entries O (boot ++ []) o.history.items (subst By (sym same) p.goes.by_terminals) c.history in
       let parts : IsTwoPart (machine O) is_actor first (start O) boot [] = record { alone = boot-alone; boot_runs = p.goes.run; later_runs = tt } in
       let d = terminal_of b in
-      let leads = boot-leads O boot merged.all parts merged.merged (subst Range (sym same) p.goes.in_range) boot-within (λ end. not_end d (subst IsAtBootEnd (boot-value d) end)) in
+      let leads = boot-leads O boot merged.all parts merged.merged (subst Range (sym same) p.goes.in_range) boot-within (λ end. not_end d (subst IsAtBootEnd (boot-value d) end).booted) in
       let Led : List Event → Type 0 = λ H. Leads O H (booted O boot) in
       record {
         run = record { state = booted O boot; legal = subst Led merged.events leads; spent = spent-in O (booted O boot) b n p.goes.holds found; final = p.goes.holds.files ∙ ap (λ f. f.tree) (sym files) ∙ sym c.files; shelf = p.goes.holds.shelf };
@@ -193,9 +213,9 @@ module _ (O : Origin) (boot : List Entry) (b : Board) (p : BootPart O boot b) wh
         held = held-in-merged O (boot ++ []) o.history.items n merged (subst Made (sym same) (found-made O (start O) [] boot b n p.goes found));
       }
 
-  module _ (end : (d : TerminalCell) → IsAtBootEnd (value_of (at b 0 d))) (made : List Entry) (c : Board) (g : Goes O (begun O boot) boot made c) where
+  module _ (end : (d : TerminalCell) → HasBooted (session_of (at b 0 d))) (made : List Entry) (c : Board) (g : Goes O (begun O boot) boot made c) where
     boot-ended : IsAtBootEnd (booted O boot first).value
-    boot-ended = let d = terminal_of b in subst IsAtBootEnd (sym (boot-value d)) (end d)
+    boot-ended = let d = terminal_of b in subst IsAtBootEnd (sym (boot-value d)) (record { owed = refl; booted = end d })
 
     both-by : AllByRecursion IsByTerminal (boot ++ made)
     both-by = all-join IsByTerminal boot made p.goes.by_terminals g.by_terminals
@@ -232,7 +252,7 @@ module _ (O : Origin) (boot : List Entry) (b : Board) (p : BootPart O boot b) wh
     complete turns ended =
         let d = terminal_of c in
         let of : (t : ℕ) → t < 4 → IsAtEnd (state_after (machine O) (begun O boot) made (Actor (Terminal t))).value =
-        λ t lt. subst IsAtEnd (sym (g.holds.terminals t d lt)) (at-end (value_of (at c t d)) (ended t d (omega arith) lt)) in
+        λ t lt. subst IsAtEnd (sym (g.holds.terminals t d lt)) (at-end (value_of O.opening.plans (at c t d)) refl (ended t d (omega arith) lt)) in
         record {
           terminals = all-four (λ t. IsAtEnd (state_after (machine O) (begun O boot) made (Actor (Terminal t))).value) (of 0 (omega arith)) (of 1 (omega arith)) (of 2 (omega arith)) (of 3 (omega arith));
           harts = all-of (λ h. HasMade O.opening.turns (state_after (machine O) (begun O boot) made (Actor (Hart h))).value) (λ h.
@@ -244,7 +264,7 @@ module _ (O : Origin) (boot : List Entry) (b : Board) (p : BootPart O boot b) wh
     shown : (H : List Event) → IsMergeOf (logs_of (boot ++ made)) H → AreTranscripts O H terminals (map (λ x. x.shown) c.terminals.items)
     shown H merge =
         four-transcripts O H c.terminals.items (four-items c) (λ t d lt.
-        (let Script : List Event → Type 0 = λ own. IsTranscript (terminal_at_start O t) own (at c t d).shown in
+        (let Script : List Event → Type 0 = λ own. IsTranscript O.opening.plans (told_at_start O t) (asked_among own) (at c t d).shown in
         subst Script (sym (own-in-merged (boot ++ made) H both-by merge t)) (g.shown t d lt).shown))
 
     -- a run that came to its end
@@ -272,6 +292,7 @@ module _ (O : Origin) (boot : List Entry) (b : Board) (p : BootPart O boot b) wh
             in_range = in-range-merged O (boot ++ made) merged.all merged.merged both-range;
           };
           shown = subst (AreTranscripts O o.history.items terminals) (sym k.shown) (shown o.history.items k.history);
+          plain = plain-merged O (boot ++ made) o.history.items merged both-by;
         }
 
 -- outcomes

@@ -1,25 +1,25 @@
 -- The phases of a run.
-use Rattle.std.proofs.Common.{◌≡◌, ◌≢◌, ℕ, zero, suc, ◌+◌, ◌-◌, ◌*◌, ◌<◌, ◌≤◌, Bool, true, false, ◌&&◌, eqb, eqb-true, inl, inr, Option, Some, None, Ok, Err, List, [], ◌∷◌, ◌++◌, length, refl, ap, sym, ◌∙◌, arith}
-use Rattle.std.specs.Prelude.{slice_index_or}
+use Rattle.std.proofs.Common.{◌≡◌, ◌≢◌, ℕ, zero, suc, ◌+◌, ◌-◌, ◌*◌, ◌<◌, ◌≤◌, Bool, true, false, ◌&&◌, inl, inr, Option, Some, None, Ok, Err, List, [], ◌∷◌, ◌++◌, length, refl, ap, sym, ◌∙◌, arith}
+use Rattle.std.specs.Prelude.{slice_index_or, is_none}
 use Rattle.std.proofs.lemmas.List.{get_or_default}
 use Rattle.hv_text.specs.declared.limits.TheConstants.{GREATEST_STAMP}
 use Rattle.hv_machine.specs.Machine.{State, state_after}
 use Rattle.hv_event.specs.declared.event.ActorId.TheVariants.{Terminal}
-use Rattle.hv_event.specs.declared.event.Event.{Event}
-use Rattle.hv_step.specs.declared.step.Step.{Step}
-use Rattle.hv_step.specs.declared.step.Step.TheVariants as step
 use Rattle.hv_answer.specs.declared.reply.Reply.{Reply}
 use Rattle.hv_answer.specs.declared.reply.Reply.TheVariants as reply
 use Rattle.hv_model.specs.declared.entry.Entry.{Entry}
 use Rattle.hv_model.specs.Origin.{Origin}
-use Rattle.hv_model.specs.Terminal.{TerminalState, Scripts, next_in, begun_boot, line_begun, step_made, terminal_after, IsAtBootEnd}
+use Rattle.hv_rules.specs.Carry.{Carry}
+use Rattle.hv_rules.specs.Line.{LineState}
+use Rattle.hv_words.specs.Said.{said}
+use Rattle.hv_model.specs.Plans.{Planned}
+use Rattle.hv_model.specs.Session.{Scripts, Session, next_in, begun_boot, Task, makes, goes, tells, task_of, first_of, Present, present_with, with_script, made_at, session_after, HasBooted, has_ended}
 use Rattle.hv_model.specs.Rules.{machine}
 use Rattle.hv_model.specs.Legal.{start}
-use Rattle.hv_model.specs.Rounds.{is_over, terminal_has_ended}
 use Rattle.hv_rounds.specs.declared.files.FileCell.{FileCell}
 use Rattle.hv_rounds.specs.declared.terminal.Terminal.{Terminal as TerminalCell}
 use Rattle.hv_rounds.specs.declared.board.Board.{Board}
-use Rattle.hv_rounds.specs.Cells.{value_of}
+use Rattle.hv_rounds.specs.Cells.{session_of}
 use Rattle.hv_rounds.specs.Step.{IsStep}
 use Rattle.hv_rounds.specs.Board.{at, IsBoardStep, Goes, IsTurn}
 use Rattle.hv_rounds.specs.Phase.{BootPart, RoundsEnd}
@@ -149,61 +149,72 @@ open-some [] n is = absurd (cc)
 open-some ([] ∷ scripts) n is = open-some scripts n is
 open-some ((l ∷ ls) ∷ scripts) n is = let same : (l, ls ∷ scripts) ≡ n = cc in (ls, scripts, ap (λ (p : List ℕ × Scripts). p.1) (sym same))
 
-line-own : (t : TerminalState) (line : List ℕ) (x : List (List ℕ)) (xs own : Scripts) (s : Step) (r : Reply) → (line_begun t (record { line = line; boot = x ∷ xs; own = own }) s r).own ≡ own
-line-own t line x xs own (step.Run s) (reply.Run (Ok script)) = refl
-line-own t line x xs own (step.Run s) (reply.Run (Err why)) = refl
-line-own t line x xs own (step.Run s) r = refl
-line-own t line x xs own (step.Rest s) r = refl
-line-own t line x xs own s r = refl
+task-own : (task : Task) (x : List (List ℕ)) (xs own : Scripts) (r : Reply) → (with_script task (record { task = task; boot = x ∷ xs; own = own }) r).own ≡ own
+task-own (makes asked) x xs own (reply.Run (Ok script)) = refl
+task-own (makes asked) x xs own (reply.Run (Err why)) = refl
+task-own (makes asked) x xs own r = refl
+task-own (goes line) x xs own r = refl
+task-own (tells line why) x xs own r = refl
 
-made-own : (t : TerminalState) (rests : ℕ) (next : Option (List ℕ × Scripts)) (s : Step) (r : Reply) → (rests ≡ 0 → next ≡ None → ⊥)
+-- what a session is at, by its line and by the next command of the boot script
+abbrev present_from : List Planned → Option LineState → Option (List ℕ × Scripts) → Session → Option Present
+present_from plans None next s = first_of plans (begun_boot next s.own)
+present_from plans (Some line) next s = Some (record { task = goes line; boot = s.boot; own = s.own })
+
+present-from : (plans : List Planned) (line : Option LineState) (s : Session) → present_with plans line s ≡ present_from plans line (next_in s.boot) s
+present-from plans None s = refl
+present-from plans (Some line) s = refl
+
+made-own : (plans : List Planned) (line : Option LineState) (next : Option (List ℕ × Scripts)) (s : Session) (r : Reply) (c : Carry) → (line ≡ None → next ≡ None → ⊥)
     → ((n : List ℕ × Scripts) → next ≡ Some n → (x : List (List ℕ)) × (xs : Scripts) × (n.1 ≡ x ∷ xs))
-    → (step_made t rests (begun_boot next t.own) s r).own ≡ t.own
-made-own t (suc n) next s r some open' = refl
-made-own t zero None s r some open' = absurd (some refl refl)
-made-own t zero (Some n) s r some open' =
+    → (made_at (present_from plans line next s) s r c).own ≡ s.own
+made-own plans (Some line) next s r c some open' = refl
+made-own plans None None s r c some open' = absurd (some refl refl)
+made-own plans None (Some n) s r c some open' =
     let o = open' n refl in
-    ap (λ (b : Scripts). (line_begun t (record { line = n.0; boot = b; own = t.own }) s r).own) o.2 ∙ line-own t n.0 o.0 o.1 t.own s r
+    let task = task_of plans n.0 (said n.0) in
+    ap (λ (boot : Scripts). (with_script task (record { task = task; boot = boot; own = s.own }) r).own) o.2 ∙ task-own task o.0 o.1 s.own r
 
-own-stays : (t : TerminalState) (e : Event) → (IsAtBootEnd t → ⊥) → (terminal_after t e).own ≡ t.own
-own-stays t e not_end =
-    made-own t t.rests (next_in t.boot) e.step e.reply (λ rests boot. not_end (record { rests = rests; boot = boot })) (open-some t.boot)
+own-stays : (plans : List Planned) (s : Session) (r : Reply) (c : Carry) → (HasBooted s → ⊥) → (session_after plans s r c).own ≡ s.own
+own-stays plans s r c not_end =
+    ap (λ (p : Option Present). (made_at p s r c).own) (present-from plans s.line s)
+    ∙ made-own plans s.line (next_in s.boot) s r c (λ line boot. not_end (record { line = line; boot = boot })) (open-some s.boot)
 
 -- one step more of the boot script
 pub boot-step : (O : Origin) (made : List Entry) (b b' : Board) (e : Entry) → BootPart O made b → IsBoardStep b b' 0 e
-    → ((d : TerminalCell) → IsAtBootEnd (value_of (at b 0 d)) → ⊥) → BootPart O (made ++ e ∷ []) b'
+    → ((d : TerminalCell) → HasBooted (session_of (at b 0 d)) → ⊥) → BootPart O (made ++ e ∷ []) b'
 boot-step O made b b' e p s not_end =
     let d = terminal_of b in
     record {
       goes = goes-step O (start O) [] made b b' 0 e d (omega arith) p.goes s;
       alone = all-push (λ (x : Entry). x.event.actor ≡ Terminal 0) made e p.alone ((s.step d).actor ∙ ap Terminal (p.goes.holds.numbers 0 d (omega arith)));
-      own = λ x. ap (λ (v : TerminalState). v.own) (s.step x).after ∙ own-stays (value_of (at b 0 x)) e.event (not_end x) ∙ p.own x;
+      own = λ x. ap (λ (v : Session). v.own) ((s.step x).session O.opening.plans e.carry) ∙ own-stays O.opening.plans (session_of (at b 0 x)) e.event.reply e.carry (not_end x) ∙ p.own x;
     }
 
 -- a terminal whose boot script has not ended has not ended
-pub over-none : (n : Option (List ℕ × Scripts)) → is_over n ≡ true → n ≡ None
-over-none None h = refl
-over-none (Some n) h = absurd (cc)
+pub is-none : {A : Type 0} (o : Option A) → is_none o ≡ true → o ≡ None
+is-none None h = refl
+is-none (Some n) h = absurd (cc)
 
 pub and-both : (p q : Bool) → (p && q) ≡ true → (p ≡ true) × (q ≡ true)
 and-both true true h = (refl, refl)
 and-both true false h = absurd (cc)
 and-both false q h = absurd (cc)
 
-pub not-ended : (t : TerminalState) → (IsAtBootEnd t → ⊥) → terminal_has_ended t ≡ false
-not-ended t not_end =
-    let Goal : Bool → Type 0 = λ b. terminal_has_ended t ≡ b → b ≡ false in
-    elim (terminal_has_ended t) as Goal [
+pub not-ended : (s : Session) → (HasBooted s → ⊥) → has_ended s ≡ false
+not-ended s not_end =
+    let Goal : Bool → Type 0 = λ b. has_ended s ≡ b → b ≡ false in
+    elim (has_ended s) as Goal [
       | true ↦ λ is.
-          let both = and-both (eqb t.rests 0) (is_over (next_in t.boot) && is_over (next_in t.own)) is in
-          let scripts = and-both (is_over (next_in t.boot)) (is_over (next_in t.own)) both.1 in
-          absurd (not_end (record { rests = eqb-true t.rests 0 both.0; boot = over-none (next_in t.boot) scripts.0 }))
+          let both = and-both (is_none s.line) (is_none (next_in s.boot) && is_none (next_in s.own)) is in
+          let scripts = and-both (is_none (next_in s.boot)) (is_none (next_in s.own)) both.1 in
+          absurd (not_end (record { line = is-none s.line both.0; boot = is-none (next_in s.boot) scripts.0 }))
       | false ↦ λ is. refl
     ] refl
 
 -- the rounds
 
-pub open-not-ended : (b : Board) (from t : ℕ) → IsTurn b from (Some t) → (t < 4) × ((d : TerminalCell) → terminal_has_ended (value_of (at b t d)) ≡ false)
+pub open-not-ended : (b : Board) (from t : ℕ) → IsTurn b from (Some t) → (t < 4) × ((d : TerminalCell) → has_ended (session_of (at b t d)) ≡ false)
 open-not-ended b from t (inl o) = (o.within, o.open_here)
 open-not-ended b from t (inr both) = (both.1.within, both.1.open_here)
 
@@ -213,7 +224,7 @@ pub record RoundsGo (O : Origin) (s : State (machine O)) (before made : List Ent
   pub took : TookTurns O s [] made (last_terminals (4 - from))
 
 pub rounds-init : (O : Origin) (s : State (machine O)) (before : List Entry) (b : Board) → O.opening.turns ≡ 0 → Goes O s before [] b → RoundsGo O s before [] 0 b
-rounds-init O s before b turns goes = record { goes = goes; took = round-begins O s b (terminal_of b) turns goes.holds }
+rounds-init O s before b turns went = record { goes = went; took = round-begins O s b (terminal_of b) turns went.holds }
 
 pub rounds-step : (O : Origin) (s : State (machine O)) (before made : List Entry) (from t : ℕ) (b b' : Board) (e : Entry) → from ≤ 4 → O.opening.turns ≡ 0 → RoundsGo O s before made from b
     → IsTurn b from (Some t) → IsBoardStep b b' t e → RoundsGo O s before (made ++ e ∷ []) (t + 1) b'

@@ -9,10 +9,11 @@ use Rattle.hv_model.specs.declared.entry.Entry.{Entry}
 use Rattle.hv_model.specs.Origin.{Origin, terminals}
 use Rattle.hv_model.specs.Hart.{hart_at_start, hart_has_ended}
 use Rattle.hv_model.specs.Rules.{machine}
+use Rattle.hv_model.specs.Session.{has_ended as ended}
 use Rattle.hv_model.specs.Rounds.{order_of, first_of, first_or, has_ended, terminal_has_ended, turn_of, TakesTurns}
 use Rattle.hv_rounds.specs.declared.terminal.Terminal.{Terminal as TerminalCell}
 use Rattle.hv_rounds.specs.declared.board.Board.{Board}
-use Rattle.hv_rounds.specs.Cells.{value_of}
+use Rattle.hv_rounds.specs.Cells.{session_of}
 use Rattle.hv_rounds.specs.Board.{at, Holds, EndedFrom, OpenFrom, IsTurn}
 
 -- the last terminals of a round, so many
@@ -54,7 +55,7 @@ module _ (O : Origin) (s : State (machine O)) (b : Board) (d : TerminalCell) (tu
   order-is : first_of (has_ended O s) (order_of O) ≡ first_of (has_ended O s) (last_terminals 4)
   order-is = skip-harts (range_with_len 0 O.opening.harts) (map Terminal terminals)
 
-  terminal-is : (t : ℕ) (x : Bool) → t < 4 → terminal_has_ended (value_of (at b t d)) ≡ x → has_ended O s (Terminal t) ≡ x
+  terminal-is : (t : ℕ) (x : Bool) → t < 4 → ended (session_of (at b t d)) ≡ x → has_ended O s (Terminal t) ≡ x
   terminal-is t x lt is = ap terminal_has_ended (holds.terminals t d lt) ∙ is
 
   first-ended : (a : ActorId) (actors : List ActorId) → has_ended O s a ≡ true → first_of (has_ended O s) (a ∷ actors) ≡ first_of (has_ended O s) actors
@@ -81,7 +82,7 @@ module _ (O : Origin) (s : State (machine O)) (b : Board) (d : TerminalCell) (tu
         | inr not_above ↦
             let is : 3 - n ≡ t = omega arith in
             let rest : n ≡ 3 - t = omega arith in
-            first-open (Terminal (3 - n)) (last_terminals n) (terminal-is (3 - n) false (omega arith) (subst (λ (v : ℕ). terminal_has_ended (value_of (at b v d)) ≡ false) (sym is) (open'.open_here d)))
+            first-open (Terminal (3 - n)) (last_terminals n) (terminal-is (3 - n) false (omega arith) (subst (λ (v : ℕ). ended (session_of (at b v d)) ≡ false) (sym is) (open'.open_here d)))
             ∙ ap (λ (v : ℕ). Some (Terminal v, last_terminals n)) is ∙ ap (λ (v : ℕ). Some (Terminal t, last_terminals v)) rest
       ]
 

@@ -3,7 +3,7 @@ use Rattle.std.proofs.Common.{◌≡◌, ℕ, List, [], ◌∷◌, ◌++◌, len
 use Rattle.std.specs.Prelude.{◌↔◌, IsTrue}
 use Rattle.std.specs.List.{AllByRecursion}
 use Rattle.std.proofs.lemmas.List.Elements.{All-from_recursion, recursion_from_All}
-use Rattle.hv_model.specs.Terminal.{next_in}
+use Rattle.hv_model.specs.Session.{next_in}
 use Rattle.hv_rounds.specs.Stack.{reversed}
 
 pub reversed-push : {A : Type 0} (xs : List A) (y : A) → reversed (xs ++ y ∷ []) ≡ y ∷ reversed xs

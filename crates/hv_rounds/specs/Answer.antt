@@ -5,7 +5,7 @@ use Rattle.hv_text.specs.Lines.{script_lines}
 use Rattle.hv_words.specs.Words.{commands_of}
 use Rattle.hv_refusal.specs.declared.refusal.Refusal.{Refusal}
 use Rattle.hv_refusal.specs.declared.refusal.Refusal.TheVariants as refusal
-use Rattle.hv_model.specs.Terminal.{opened}
+use Rattle.hv_model.specs.Session.{Task, opened}
 use Rattle.hv_rounds.specs.declared.terminal.Terminal.{Terminal}
 
 -- the reply is what was found, or TooDeep or TooLong, and the lines are counted where a script was found
@@ -17,10 +17,11 @@ AnswersScript (Err why) r lines = (lines ≡ None) × ((r ≡ Err why) ⊎ (r �
 
 -- the terminal has a further script open, of so many lines
 pub record IsOpened (t t' : Terminal) (script : List (List ℕ)) (lines : ℕ) : Type 0 where
-  pub scripts : (line : List ℕ) → opened (record { line = line; boot = t.boot; own = t.own }) script ≡ record { line = line; boot = t'.boot; own = t'.own }
+  pub scripts : (task : Task) → opened (record { task = task; boot = t.boot; own = t.own }) script ≡ record { task = task; boot = t'.boot; own = t'.own }
   pub number : t'.number ≡ t.number
   pub count : t'.count ≡ t.count
   pub stamp : t'.stamp ≡ t.stamp
+  pub asked : t'.asked ≡ t.asked
   pub rests : t'.rests ≡ t.rests
   pub lines_are : t'.lines ≡ t.lines + lines
   pub shown : t'.shown ≡ t.shown

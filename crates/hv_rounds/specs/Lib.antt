@@ -9,3 +9,5 @@ pub mod Close
 pub use Rattle.hv_model.specs.Legal
 pub use Rattle.hv_model.specs.Rounds
 pub use Rattle.hv_model.specs.Report
+pub use Rattle.hv_model.specs.Transcript
+pub use Rattle.hv_model.specs.Session

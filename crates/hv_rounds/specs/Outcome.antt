@@ -6,17 +6,20 @@ use Rattle.hv_model.specs.Origin.{Origin, terminals}
 use Rattle.hv_model.specs.Legal.{IsFinishedRun, IsStoppedRun, lines_among}
 use Rattle.hv_model.specs.Rounds.{IsRounds}
 use Rattle.hv_model.specs.Report.{AreTranscripts}
+use Rattle.hv_model.specs.States.{ArePlain}
 use Rattle.hv_rounds.specs.declared.whole.Outcome.{Outcome}
 
 -- no terminal begins with more lines than its scripts may have
 abbrev pub LinesFit : Opening → Type 0
 LinesFit opening = (t : ℕ) → t < TERMINALS → lines_among opening.scripts t ≤ MOST_LINES
 
--- a run that came to its end: its history is finished and made in rounds, and these are its files and transcripts
+-- a run that came to its end: its history is finished and made in rounds and changes no VCPU, and these are its files and
+-- transcripts
 pub record IsFinished (O : Origin) (o : Outcome) : Type 0 where
   pub run : IsFinishedRun O o.history.items o.files O.devices
   pub rounds : IsRounds O o.history.items
   pub shown : AreTranscripts O o.history.items terminals o.transcripts
+  pub plain : ArePlain o.history.items
 
 -- a run that a step stopped whose greatest stamp was the last one: its history is legal and has an event of that stamp
 pub record IsSpent (O : Origin) (o : Outcome) (stamp : ℕ) : Type 0 where

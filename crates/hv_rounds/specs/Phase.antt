@@ -6,12 +6,12 @@ use Rattle.hv_event.specs.declared.event.ActorId.TheVariants.{Terminal}
 use Rattle.hv_model.specs.declared.entry.Entry.{Entry}
 use Rattle.hv_model.specs.Origin.{Origin}
 use Rattle.hv_model.specs.Rules.{machine}
-use Rattle.hv_model.specs.Terminal.{IsAtBootEnd}
+use Rattle.hv_model.specs.Session.{HasBooted}
 use Rattle.hv_model.specs.Legal.{start, own_at_start}
 use Rattle.hv_model.specs.Rounds.{TakesTurns}
 use Rattle.hv_rounds.specs.declared.terminal.Terminal.{Terminal as TerminalCell}
 use Rattle.hv_rounds.specs.declared.board.Board.{Board}
-use Rattle.hv_rounds.specs.Cells.{value_of}
+use Rattle.hv_rounds.specs.Cells.{session_of}
 use Rattle.hv_rounds.specs.Board.{at, Goes, FoundLast, EndedFrom}
 
 -- Terminal 0 alone made these of its boot script, and none of its own script
@@ -22,9 +22,9 @@ pub record BootPart (O : Origin) (made : List Entry) (b : Board) : Type 0 where
 
 -- the boot script has ended on the board; or a step was stopped before its end, and the board has the files of then
 abbrev pub BootEnds : Origin → List Entry → Board → Option ℕ → Type 0
-BootEnds O made b None = BootPart O made b × ((d : TerminalCell) → IsAtBootEnd (value_of (at b 0 d)))
+BootEnds O made b None = BootPart O made b × ((d : TerminalCell) → HasBooted (session_of (at b 0 d)))
 BootEnds O made b (Some n) =
-    (c : Board) × BootPart O made c × ((d : TerminalCell) → IsAtBootEnd (value_of (at c 0 d)) → ⊥) × (b.files ≡ c.files) × FoundLast c n
+    (c : Board) × BootPart O made c × ((d : TerminalCell) → HasBooted (session_of (at c 0 d)) → ⊥) × (b.files ≡ c.files) × FoundLast c n
 
 -- all terminals have ended on the board, and took turns; or a step was stopped, and the board has the files of then
 abbrev pub RoundsEnd : (O : Origin) → State (machine O) → List Entry → List Entry → Board → Option ℕ → Type 0
@@ -34,4 +34,4 @@ RoundsEnd O s before made b (Some n) = (c : Board) × Goes O s before made c × 
 -- the boot script has ended on the board
 pub record IsBooted (O : Origin) (made : List Entry) (b : Board) : Type 0 where
   pub part : BootPart O made b
-  pub ended : (d : TerminalCell) → IsAtBootEnd (value_of (at b 0 d))
+  pub ended : (d : TerminalCell) → HasBooted (session_of (at b 0 d))

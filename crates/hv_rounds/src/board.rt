@@ -1,6 +1,6 @@
 //! The cells of a run: the files and the four terminals.
 ghost use Rattle.std.specs.Prelude.{◌≡◌, ◌≤◌, ◌<◌, ℕ, vec_len, IfOk, Err, MatchOption, false};
-ghost use Rattle.hv_model.specs.Rounds.{terminal_has_ended};
+ghost use Rattle.hv_model.specs.Session.{has_ended};
 
 use crate::files::FileCell;
 use crate::stop::Stop;
@@ -20,7 +20,7 @@ pub struct Board {
 impl Board {
     ghost use Rattle.hv_rounds.specs.declared.terminal.Terminal.{Terminal as TerminalCell};
     ghost use Rattle.hv_rounds.specs.declared.stop.Stop.TheVariants as stop;
-    ghost use Rattle.hv_rounds.specs.Cells.{value_of};
+    ghost use Rattle.hv_rounds.specs.Cells.{session_of};
     ghost use Rattle.hv_rounds.specs.Step.{KeepsFiles};
     ghost use Rattle.hv_rounds.specs.Board.{at, IsBoardStep, EndedFrom, OpenFrom, IsTurn, FoundLast, BeginTogether};
 
@@ -51,7 +51,7 @@ impl Board {
     /// The next step of a terminal that has not ended.
     pub fn step(&mut self, alloc: Global, number: usize) -> Result<Entry, Stop>
         requires is_one { number < 4 }
-        requires left { (d : TerminalCell) → terminal_has_ended (value_of (at self.old number d)) ≡ false }
+        requires left { (d : TerminalCell) → has_ended (session_of (at self.old number d)) ≡ false }
         ensures ok { IfOk result (λ e. IsBoardStep self.old self.new number e) }
         ensures spent { (n : ℕ) → result ≡ Err (stop.Spent n) → FoundLast self.old n }
         ensures kept { KeepsFiles result self.old.files self.new.files }

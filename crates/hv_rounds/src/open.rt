@@ -6,8 +6,8 @@ ghost use Rattle.hv_words.specs.Words.{commands_of};
 ghost use Rattle.hv_emu.specs.Device.{DevState};
 ghost use Rattle.hv_model.specs.Origin.{origin_of, boot_among, own_among};
 ghost use Rattle.hv_model.specs.Files.{load_files};
-ghost use Rattle.hv_model.specs.Legal.{lines_among, terminal_at_start};
-ghost use Rattle.hv_rounds.specs.Cells.{value_of, IsNew};
+ghost use Rattle.hv_model.specs.Legal.{lines_among, session_at_start};
+ghost use Rattle.hv_rounds.specs.Cells.{session_of, IsNew};
 ghost use Rattle.hv_rounds.specs.Phase.{BootPart};
 ghost use Rattle.hv_rounds.specs.Outcome.{LinesFit};
 
@@ -82,7 +82,7 @@ fn lines_of(opening: &Opening, number: u8) -> u64
 fn open_terminal(alloc: Global, opening: &Opening, number: u8) -> Result<Terminal, AllocError>
     requires is_one { number < 4 }
     requires fit { lines_among opening.now.scripts number ≤ MOST_LINES }
-    ensures value { IfOk result (λ t. value_of t ≡ terminal_at_start (origin_of opening.now []) number) }
+    ensures session { IfOk result (λ t. session_of t ≡ session_at_start (origin_of opening.now []) number) }
     ensures new { IfOk result (λ t. IsNew t number) }
 {
     let boot = open_boot(alloc, opening, number)?;
@@ -92,6 +92,7 @@ fn open_terminal(alloc: Global, opening: &Opening, number: u8) -> Result<Termina
         number,
         count: 0,
         stamp: 0,
+        asked: 0,
         rests: 0,
         boot,
         own,

@@ -2,7 +2,8 @@
 ghost use Rattle.std.specs.Prelude.{◌≡◌, ◌≢◌, ◌≤◌, ◌<◌, ◌+◌, ℕ, List, Ok, Err, Some, None, OnOk, nat_le, length};
 ghost use Rattle.hv_text.specs.declared.limits.TheConstants.{MOST_LINES, OPEN_SCRIPTS};
 ghost use Rattle.hv_words.specs.Words.{commands_of};
-ghost use Rattle.hv_model.specs.Terminal.{scripts_of, RunAnswers};
+ghost use Rattle.hv_model.specs.Session.{Task, scripts_of};
+ghost use Rattle.hv_model.specs.Terminal.{RunAnswers};
 ghost use Rattle.hv_rounds.specs.Answer.{AnswersScript, IsOpened, MayOpen, RunOpens};
 
 use crate::terminal::Terminal;
@@ -60,7 +61,7 @@ fn answer_missing(why: Refusal, depth: usize) -> RunAnswer
 impl Terminal {
     /// How many scripts are open where its command came from.
     pub fn depth(&self) -> usize
-        ensures { (line : List ℕ) → result ≡ length (scripts_of (record { line = line; boot = self.now.boot; own = self.now.own })) }
+        ensures { (task : Task) → result ≡ length (scripts_of (record { task = task; boot = self.now.boot; own = self.now.own })) }
     {
         match self.boot.depth() {
             0 => self.own.depth(),

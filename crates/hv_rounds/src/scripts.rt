@@ -1,6 +1,6 @@
 //! Open scripts.
 ghost use Rattle.std.specs.Prelude.{◌≡◌, ◌↔◌, [], ◌∷◌, Some, None, All, IsTrue, IfOk, OnOk, MatchOption, length};
-ghost use Rattle.hv_model.specs.Terminal.{next_in};
+ghost use Rattle.hv_model.specs.Session.{next_in};
 
 use hv_text::Bytes;
 use hv_words::Script;

@@ -2,7 +2,7 @@
 ghost use Rattle.std.specs.Prelude.{◌≡◌, ◌++◌, Ok, OnOk, codes};
 ghost use Rattle.hv_dtree.specs.declared.node.Node.{Node};
 ghost use Rattle.hv_dts.specs.Reading.{IsSourceOf};
-ghost use Rattle.hv_model.specs.Report.{line, shown, names_shown, answer_shown, nothing_shown, words_shown, refused_shown};
+ghost use Rattle.hv_model.specs.Transcript.{line, shown, names_shown, answer_shown, nothing_shown, words_shown, refused_shown};
 ghost use Rattle.hv_rounds.specs.Step.{IsShowable, AppendsReply};
 
 use hv_dts::{DtsRefusal, print_dts, read_dts};
@@ -25,7 +25,7 @@ pub fn push_begun(to: &mut Bytes, text: &[u8]) -> Result<(), AllocError>
     push_line(to, text)
 }
 
-#[tactic(auto, unfolding(hv_model::specs::Report::shown))]
+#[tactic(auto, unfolding(hv_model::specs::Transcript::shown))]
 fn push_file(to: &mut Bytes, bytes: &[u8]) -> Result<(), AllocError>
     ensures { OnOk result (to.new ≡ to.old ++ shown bytes.now) }
 {

@@ -43,6 +43,7 @@ fn rest_first(
     ensures shown { terminal.new.shown ≡ terminal.old.shown }
 {
     let stamp = next_stamp(terminal.stamp, 0)?;
+    terminal.asked = count;
     terminal.rests = count - 1;
     Ok(terminal.make(stamp, Step::Rest(Rest), Reply::Rest, None))
 }

@@ -17,6 +17,8 @@ pub struct Terminal {
     pub count: u64,
     /// The stamp of its last event, or that with which it began.
     pub stamp: u64,
+    /// How many steps its present line has, or its last one had, where it rests.
+    pub asked: u64,
     /// How many steps its present line has left.
     pub rests: u64,
     /// The open scripts of its boot script.
@@ -28,6 +30,7 @@ pub struct Terminal {
     /// Its transcript.
     pub shown: Bytes,
     ghost lines_bounded: { lines ≤ MOST_LINES },
+    ghost rests_bounded: { rests ≤ asked },
     ghost count_bounded: { count ≤ stamp },
     ghost stamp_bounded: { stamp ≤ GREATEST_STAMP },
 }
@@ -48,21 +51,20 @@ pub fn next_stamp(one: u64, other: u64) -> Result<u64, Stop>
 }
 
 impl Terminal {
-    ghost use Rattle.hv_rounds.specs.Cells.{value_of, SameButScripts, MadeOne, BeginsAt};
-    ghost use Rattle.hv_model.specs.Terminal.{begun, IsAtBootEnd};
-    ghost use Rattle.hv_model.specs.Rounds.{terminal_has_ended};
+    ghost use Rattle.hv_rounds.specs.Cells.{session_of, SameButScripts, MadeOne, BeginsAt};
+    ghost use Rattle.hv_model.specs.Session.{begun, has_ended, HasBooted};
     ghost use Rattle.hv_rounds.specs.Step.{Makes};
 
     /// Whether its boot script has ended.
     pub fn is_booted(&self) -> bool
-        ensures { IsTrue result ↔ IsAtBootEnd (value_of self.now) }
+        ensures { IsTrue result ↔ HasBooted (session_of self.now) }
     {
         self.rests == 0 && self.boot.is_over()
     }
 
     /// Whether its program has ended.
     pub fn has_ended(&self) -> bool
-        ensures { result ≡ terminal_has_ended (value_of self.now) }
+        ensures { result ≡ has_ended (session_of self.now) }
     {
         self.rests == 0 && self.boot.is_over() && self.own.is_over()
     }
@@ -70,9 +72,9 @@ impl Terminal {
     /// Begins the next command, and gives its line.
     pub fn begin(&mut self, alloc: Global) -> Result<Bytes, AllocError>
         requires line_done { self.old.rests ≡ 0 }
-        requires left { terminal_has_ended (value_of self.old) ≡ false }
+        requires left { has_ended (session_of self.old) ≡ false }
         ensures line { IfOk result (λ line.
-            begun (value_of self.old) ≡ Some (record { line = line; boot = self.new.boot; own = self.new.own })) }
+            begun (session_of self.old) ≡ Some (record { line = line; boot = self.new.boot; own = self.new.own })) }
         ensures rest { OnOk result (SameButScripts self.old self.new) }
     {
         if let Some(line) = self.boot.begin(alloc)? {

@@ -19,6 +19,7 @@ fn makes_no_event_past_the_last_stamp(rt: HostRuntime) -> Result<(), Fail> {
         number: 1,
         count: 7,
         stamp: GREATEST_STAMP,
+        asked: 2,
         rests: 2,
         boot: OpenScripts::new(alloc),
         own: OpenScripts::new(alloc),

@@ -1,9 +1,8 @@
 //! A terminal's next step, with what it shows.
 ghost use Rattle.std.specs.Prelude.{◌≡◌, ◌++◌, IfOk, OnOk, false};
-ghost use Rattle.hv_model.specs.Terminal.{begun};
-ghost use Rattle.hv_model.specs.Rounds.{terminal_has_ended};
-ghost use Rattle.hv_model.specs.Report.{begin_shown};
-ghost use Rattle.hv_rounds.specs.Cells.{value_of};
+ghost use Rattle.hv_model.specs.Session.{begun, has_ended};
+ghost use Rattle.hv_model.specs.Transcript.{begin_shown};
+ghost use Rattle.hv_rounds.specs.Cells.{session_of};
 ghost use Rattle.hv_rounds.specs.Step.{IsStep, AppendsEvent, SpentBy, KeepsFiles};
 
 use crate::files::FileCell;
@@ -18,7 +17,7 @@ use std::alloc::{AllocError, Global};
 impl Terminal {
     ghost use Rattle.hv_rounds.specs.Cells.{SameButShown};
     ghost use Rattle.hv_rounds.specs.Step.{IsShowable, AppendsEnd};
-    ghost use Rattle.hv_model.specs.Report.{line};
+    ghost use Rattle.hv_model.specs.Transcript.{line};
     ghost use Rattle.std.specs.Prelude.{codes};
 
     /// Shows a line that is begun.
@@ -46,10 +45,10 @@ impl Terminal {
 /// The first step of the next line, which is shown.
 fn step_begun(alloc: Global, files: &mut FileCell, terminal: &mut Terminal) -> Result<Entry, Stop>
     requires line_done { terminal.old.rests ≡ 0 }
-    requires left { terminal_has_ended (value_of terminal.old) ≡ false }
+    requires left { has_ended (session_of terminal.old) ≡ false }
     ensures ok { IfOk result (λ e. IsStep files.old files.new terminal.old terminal.new e) }
     ensures shown { OnOk result (terminal.new.shown
-        ≡ terminal.old.shown ++ begin_shown terminal.old.rests (begun (value_of terminal.old))) }
+        ≡ terminal.old.shown ++ begin_shown (session_of terminal.old).line (begun (session_of terminal.old))) }
     ensures spent { SpentBy result terminal.old.stamp files.old.stamp }
     ensures kept { KeepsFiles result files.old files.new }
 {
@@ -60,10 +59,10 @@ fn step_begun(alloc: Global, files: &mut FileCell, terminal: &mut Terminal) -> R
 
 /// The next step, whose line is shown where it is begun.
 fn make_step(alloc: Global, files: &mut FileCell, terminal: &mut Terminal) -> Result<Entry, Stop>
-    requires { terminal_has_ended (value_of terminal.old) ≡ false }
+    requires { has_ended (session_of terminal.old) ≡ false }
     ensures ok { IfOk result (λ e. IsStep files.old files.new terminal.old terminal.new e) }
     ensures shown { OnOk result (terminal.new.shown
-        ≡ terminal.old.shown ++ begin_shown terminal.old.rests (begun (value_of terminal.old))) }
+        ≡ terminal.old.shown ++ begin_shown (session_of terminal.old).line (begun (session_of terminal.old))) }
     ensures spent { SpentBy result terminal.old.stamp files.old.stamp }
     ensures kept { KeepsFiles result files.old files.new }
 {
@@ -79,10 +78,10 @@ pub fn take_step(
     files: &mut FileCell,
     terminal: &mut Terminal,
 ) -> Result<Entry, Stop>
-    requires { terminal_has_ended (value_of terminal.old) ≡ false }
+    requires { has_ended (session_of terminal.old) ≡ false }
     ensures ok { IfOk result (λ e. IsStep files.old files.new terminal.old terminal.new e) }
     ensures shown { IfOk result (λ e.
-        AppendsEvent (value_of terminal.old) e.event terminal.old.shown terminal.new.shown) }
+        AppendsEvent terminal.old e.event terminal.old.shown terminal.new.shown) }
     ensures spent { SpentBy result terminal.old.stamp files.old.stamp }
     ensures kept { KeepsFiles result files.old files.new }
 {

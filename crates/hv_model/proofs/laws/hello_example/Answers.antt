@@ -1,9 +1,8 @@
 -- The definitions compute.
-use Rattle.std.proofs.Common.{◌≤◌, ℕ, ◌≡◌, ◌+◌, max, List, [], ◌∷◌, ◌++◌, codes, Ok, map, refl, subst, ap, lit≤, lit<, arith, slice_index, slice_index_or, length}
+use Rattle.std.proofs.Common.{◌≤◌, ℕ, ◌≡◌, ◌+◌, max, List, [], ◌∷◌, ◌++◌, codes, Ok, map, refl, subst, ap, lit≤, arith, slice_index, slice_index_or, length}
 use Rattle.std.specs.Fmt.{digits}
-use Rattle.std.proofs.lemmas.List.Elements.{All-from_recursion}
 use Rattle.hv_event.specs.Line.{event_text}
-use Rattle.hv_model.specs.Report.{shown}
+use Rattle.hv_model.specs.Transcript.{shown}
 use Rattle.std.specs.List.{AllByRecursion}
 use Rattle.hv_machine.specs.Machine.{State, greatest, MayHappen, IsRun}
 use Rattle.hv_machine.specs.Phases.{IsTwoPart}
@@ -14,8 +13,6 @@ use Rattle.hv_answer.specs.declared.reply.Reply.TheVariants as reply
 use Rattle.hv_model.specs.Cell.{Component, is_actor}
 use Rattle.hv_model.specs.Entry.{Entry, nothing}
 use Rattle.hv_model.specs.Files.{load_files, read_file, answered}
-use Rattle.hv_words.specs.declared.command.Command.TheVariants as command
-use Rattle.hv_words.specs.Commands.{IsCommandPath, Gives}
 use Rattle.hv_model.specs.Terminal.{IsAtEnd}
 use Rattle.hv_model.specs.Rules.{machine, IsAllowedAt, footprint_of}
 use Rattle.hv_model.specs.Legal.{first, Leads, IsComplete, reached, start, begun}
@@ -24,15 +21,6 @@ use Rattle.hv_model.proofs.laws.hello_example.Goals as goal
 
 abbrev entry : Entry
 entry = record { event = example.event; carry = nothing }
-
-command-path : IsCommandPath (codes "hello" ∷ [])
-command-path = record {
-  names = (record { some = lit< tt; short = lit< tt; each = grind arith; not_here = λ e. cc; not_above = λ e. cc }, tt);
-  short = lit≤ tt;
-}
-
-gives : Gives (codes "vfs cat /hello") (command.VfsCat (codes "hello" ∷ []))
-gives = record { printable = All-from_recursion (λ (b : ℕ). (32 ≤ b) × (b ≤ 126)) (codes "vfs cat /hello") ((lit≤ tt, lit≤ tt), ((lit≤ tt, lit≤ tt), ((lit≤ tt, lit≤ tt), ((lit≤ tt, lit≤ tt), ((lit≤ tt, lit≤ tt), ((lit≤ tt, lit≤ tt), ((lit≤ tt, lit≤ tt), ((lit≤ tt, lit≤ tt), ((lit≤ tt, lit≤ tt), ((lit≤ tt, lit≤ tt), ((lit≤ tt, lit≤ tt), ((lit≤ tt, lit≤ tt), ((lit≤ tt, lit≤ tt), ((lit≤ tt, lit≤ tt), tt)))))))))))))); arguments = codes "/hello" ∷ []; words_are = refl; fit = ((command-path, refl), tt) }
 
 leads : Leads example.origin example.history (reached example.origin (entry ∷ []) [])
 leads =
@@ -45,26 +33,26 @@ leads =
         in_range = (lit≤ tt, tt);
         parts = record {
           alone = (refl, tt);
-          boot_runs = (record { agreed = (record { index = refl; step = (Ok (command.VfsCat (codes "hello" ∷ [])), gives, (refl, tt)); carry = refl }, (refl, tt)); stamped = refl }, tt);
+          boot_runs = (record { agreed = (record { index = refl; step = (refl, tt); carry = refl }, (refl, tt)); stamped = refl }, tt);
           later_runs = tt;
         };
         within = refl;
       };
-      state = record { ended = λ _. refl; unended = λ not_ended. absurd (not_ended (record { rests = refl; boot = refl })) };
+      state = record { ended = λ _. refl; unended = λ not_ended. absurd (not_ended (record { owed = refl; booted = record { line = refl; boot = refl } })) };
     }
 
 ended : IsAtEnd (reached example.origin (entry ∷ []) [] first).value
-ended = record { rests = refl; boot = refl; own = refl }
+ended = record { owed = refl; ended = record { line = refl; boot = refl; own = refl } }
 
 complete : IsComplete example.origin (reached example.origin (entry ∷ []) [])
 complete = record {
   terminals = (
     ended,
     (
-      record { rests = refl; boot = refl; own = refl },
+      record { owed = refl; ended = record { line = refl; boot = refl; own = refl } },
       (
-        record { rests = refl; boot = refl; own = refl },
-        (record { rests = refl; boot = refl; own = refl }, tt),
+        record { owed = refl; ended = record { line = refl; boot = refl; own = refl } },
+        (record { owed = refl; ended = record { line = refl; boot = refl; own = refl } }, tt),
       ),
     ),
   );
@@ -84,7 +72,7 @@ pub returns-clause-report : goal.returns-clause-report
 unfolding digits event_text shown
 returns-clause-report c = record {
   transcripts = example.transcript ∷ [] ∷ [] ∷ [] ∷ [];
-  shown = ((example.transcript, [], refl, record { behind = codes "hi" ++ 10 ∷ codes "< ok" ++ 10 ∷ []; ends = refl; text_is = refl }, refl), (refl, (refl, (refl, tt))));
+  shown = ((example.transcript, [], refl, record { behind = codes "hi" ++ 10 ∷ codes "< ok" ++ 10 ∷ []; shows = refl; text_is = refl }, refl), (refl, (refl, (refl, tt))));
   text_is = refl;
 }
 

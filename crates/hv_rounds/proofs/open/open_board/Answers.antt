@@ -11,5 +11,5 @@ returns c = λ devices.
     c.in_ok-push-4.ensures.items ∙ ap (next c.in_ok-fourth.fourth) (c.in_ok-push-3.ensures.items ∙ ap (next c.in_ok-third.third)
     (c.in_ok-push-2.ensures.items ∙ ap (next c.in_ok-second.second) (c.in_ok-push.ensures.items ∙ ap (next c.in_ok-first.first) c.new-terminals.ensures.items))) in
     opened-board (origin_of c.args.opening.now devices) _ c.in_ok-first.first c.in_ok-second.second c.in_ok-third.third c.in_ok-fourth.fourth items c.requires.files refl
-    c.in_ok-first.ensures.value c.in_ok-first.ensures.new c.in_ok-second.ensures.value c.in_ok-second.ensures.new
-    c.in_ok-third.ensures.value c.in_ok-third.ensures.new c.in_ok-fourth.ensures.value c.in_ok-fourth.ensures.new
+    c.in_ok-first.ensures.session c.in_ok-first.ensures.new c.in_ok-second.ensures.session c.in_ok-second.ensures.new
+    c.in_ok-third.ensures.session c.in_ok-third.ensures.new c.in_ok-fourth.ensures.session c.in_ok-fourth.ensures.new

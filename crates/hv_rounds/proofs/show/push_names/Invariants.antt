@@ -1,5 +1,5 @@
 use Rattle.std.proofs.Common.{◌≡◌, ◌++◌, take}
-use Rattle.hv_model.specs.Report.{names_shown}
+use Rattle.hv_model.specs.Transcript.{names_shown}
 use Rattle.hv_rounds.proofs.show.push_names.Given as goal
 
 abbrev pub invariant-loop-name : goal.invariant-loop-name

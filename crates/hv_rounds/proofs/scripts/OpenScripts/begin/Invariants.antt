@@ -1,5 +1,5 @@
 use Rattle.std.proofs.Common.{◌≡◌, vec_len}
-use Rattle.hv_model.specs.Terminal.{next_in}
+use Rattle.hv_model.specs.Session.{next_in}
 use Rattle.hv_rounds.specs.Stack.{reversed}
 use Rattle.hv_rounds.proofs.scripts.OpenScripts.begin.Given as goal
 

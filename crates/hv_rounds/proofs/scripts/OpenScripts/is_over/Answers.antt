@@ -1,6 +1,6 @@
 use Rattle.std.proofs.Common.{ℕ, List, ◌≡◌, subst, None, [], All}
 use Rattle.std.specs.Prelude.{◌↔◌, IsTrue}
-use Rattle.hv_model.specs.Terminal.{next_in}
+use Rattle.hv_model.specs.Session.{next_in}
 use Rattle.hv_rounds.proofs.Stacks.{over-iff}
 use Rattle.hv_rounds.proofs.scripts.OpenScripts.is_over.Goals as goal
 
