@@ -1,5 +1,5 @@
 -- Legal histories lead to boards that steps lead to.
-use Rattle.std.proofs.Common.{◌≡◌, ℕ, Bool, true, false, inl, inr, ◌⊎◌, eqb, eqb-true, eq-eqb, List, [], ◌∷◌, ◌++◌, map, None, Some, Option, refl, ap, sym, subst, ◌∙◌}
+use Rattle.std.proofs.Common.{◌≡◌, ℕ, Bool, true, false, inl, inr, ◌⊎◌, List, [], ◌∷◌, ◌++◌, map, None, Some, Option, refl, ap, sym, subst, ◌∙◌}
 use Rattle.std.specs.List.{list_any}
 use Rattle.hv_event.specs.declared.event.ActorId.{ActorId}
 use Rattle.hv_event.specs.declared.event.ActorId.TheVariants.{Hart, Terminal}
@@ -16,7 +16,8 @@ use Rattle.hv_model.specs.Hart.{HartState}
 use Rattle.hv_model.specs.Legal.{start, booted, begun, reached, Leads, first}
 use Rattle.hv_model.specs.Origin.{Origin}
 use Rattle.hv_model.specs.Rules.{machine, components_of}
-use Rattle.hv_model.specs.Terminal.{TerminalState, Scripts, IsAtBootEnd, next_in}
+use Rattle.hv_model.specs.Session.{next_in}
+use Rattle.hv_model.specs.Terminal.{TerminalState, IsAtBootEnd}
 use Rattle.hv_rules.specs.Hart.{HartAgrees}
 use Rattle.hv_laws.specs.Board.{Board, Made, Becomes, IsStep, is_queue, is_vcpu, is_hart}
 use Rattle.hv_laws.specs.Legal.{board_of}
@@ -31,7 +32,7 @@ module _ (m : Machine) (s : State m) (e : m.Event) (may : MayHappen m s e) (x : 
   agrees : touches m x e ≡ true → m.IsAllowedAt x (s x).value e
   agrees t = all-at m.same m.same_only (λ y. m.IsAllowedAt y (s y).value e) x (m.footprint e) may.agreed t
 
-  cell-becomes : Becomes (touches m x e) (m.IsAllowedAt x (s x).value e) (m.apply_at x (s x).value e) (s x).value (next_state m s e x).value
+  pub cell-becomes : Becomes (touches m x e) (m.IsAllowedAt x (s x).value e) (m.apply_at x (s x).value e) (s x).value (next_state m s e x).value
   cell-becomes =
       let Goal : Bool → Type 0 = λ b. touches m x e ≡ b → Becomes b (m.IsAllowedAt x (s x).value e) (m.apply_at x (s x).value e) (s x).value (next_state m s e x).value in
       elim (touches m x e) as Goal [
@@ -76,7 +77,7 @@ hart-touched : (O : Origin) (e : Entry) (n : ℕ) → touches (machine O) (Actor
 hart-touched O e n = touch-actor O e (Hart n) ∙ hart-at n e.event.actor
 
 -- the same by another test
-becomes-by : {A : Type 0} (b d : Bool) (P : Type 0) (changed before after : A) → b ≡ d → Becomes b P changed before after → Becomes d P changed before after
+pub becomes-by : {A : Type 0} (b d : Bool) (P : Type 0) (changed before after : A) → b ≡ d → Becomes b P changed before after → Becomes d P changed before after
 becomes-by b d P changed before after is h = subst (λ (t : Bool). Becomes t P changed before after) is h
 
 -- what becomes of a part of a value
@@ -131,20 +132,26 @@ starts O = record {
 }
 
 -- a boot script has ended, or it hasn't
-none-or : (n : Option (List ℕ × Scripts)) → (n ≡ None) ⊎ (n ≡ None → ⊥)
+none-or : {A : Type 0} (o : Option A) → (o ≡ None) ⊎ (o ≡ None → ⊥)
 none-or None = inl refl
 none-or (Some x) = inr (λ e. absurd (cc))
 
-ended-or : (t : TerminalState) → IsAtBootEnd t ⊎ (IsAtBootEnd t → ⊥)
+empty-or : {A : Type 0} (xs : List A) → (xs ≡ []) ⊎ (xs ≡ [] → ⊥)
+empty-or [] = inl refl
+empty-or (x ∷ xs) = inr (λ e. absurd (cc))
+
+pub ended-or : (t : TerminalState) → IsAtBootEnd t ⊎ (IsAtBootEnd t → ⊥)
 ended-or t =
-    let Goal : Bool → Type 0 = λ b. eqb t.rests 0 ≡ b → IsAtBootEnd t ⊎ (IsAtBootEnd t → ⊥) in
-    elim (eqb t.rests 0) as Goal [
-      | true ↦ λ done. elim (none-or (next_in t.boot)) [
-        | inl none ↦ inl (record { rests = eqb-true t.rests 0 done; boot = none })
-        | inr some ↦ inr (λ (end : IsAtBootEnd t). some end.boot)
+    elim (empty-or t.owed) [
+      | inl owed ↦ elim (none-or t.session.line) [
+        | inl line ↦ elim (none-or (next_in t.session.boot)) [
+          | inl boot ↦ inl (record { owed = owed; booted = record { line = line; boot = boot } })
+          | inr some ↦ inr (λ (end : IsAtBootEnd t). some end.booted.boot)
+        ]
+        | inr some ↦ inr (λ (end : IsAtBootEnd t). some end.booted.line)
       ]
-      | false ↦ λ more. inr (λ (end : IsAtBootEnd t). (let done = eq-eqb t.rests 0 end.rests in absurd (cc)))
-    ] refl
+      | inr some ↦ inr (λ (end : IsAtBootEnd t). some end.owed)
+    ]
 
 -- a legal history leads to a board that steps lead to
 pub legal-reached : (O : Origin) (H : List Event) (s : State (machine O)) → Leads O H s → IsReached O.opening.harts (board_of O s)

@@ -31,34 +31,34 @@ module _ (O : Origin) where
   changed : (s : State (machine O)) (e : Entry) (x : Cell) → touches (machine O) x e ≡ true → next_state (machine O) s e x ≡ cell_after rules x (s x) e
   changed s e x touched = rw touched refl
 
-  own-changed : (s : State (machine O)) (e : Entry) → IsOwn e → terminal (next_state (machine O) s e) ≡ terminal_after (terminal s) e.event
+  own-changed : (s : State (machine O)) (e : Entry) → IsOwn e → terminal (next_state (machine O) s e) ≡ terminal_after (terminal s) e
   own-changed s e own =
       let Touched : Cell → Type 0 = λ x. touches (machine O) x e ≡ true in
       ap (λ h. h.value) (changed s e first (subst Touched own ((has-actors O).touched e)))
 
-  bottom-after : (s : State (machine O)) (es : List Entry) → AllByRecursion IsOwn es → bottom (terminal (state_after (machine O) s es)).own ≤ bottom (terminal s).own
+  bottom-after : (s : State (machine O)) (es : List Entry) → AllByRecursion IsOwn es → bottom (terminal (state_after (machine O) s es)).session.own ≤ bottom (terminal s).session.own
   bottom-after s [] own = omega arith
   bottom-after s (e ∷ es) own =
       let later = bottom-after (next_state (machine O) s e) es own.1 in
-      let here = after-keeps (terminal s) e.event in
-      let same = ap (λ (t : TerminalState). bottom t.own) (own-changed s e own.0) in
+      let here = after-keeps (terminal s) e in
+      let same = ap (λ (t : TerminalState). bottom t.session.own) (own-changed s e own.0) in
       omega arith
 
   -- with its boot script at its end Terminal 0 makes no event more that leaves its own script as it is
   over : (script : List (List ℕ)) (s : State (machine O)) (e : Entry) (es : List Entry) → AllByRecursion IsOwn (e ∷ es) → IsRun (machine O) s (e ∷ es)
-      → IsAtBootEnd (terminal s) → (terminal s).own ≡ script ∷ [] → (terminal (state_after (machine O) s (e ∷ es))).own ≡ script ∷ [] → ⊥
+      → IsAtBootEnd (terminal s) → (terminal s).session.own ≡ script ∷ [] → (terminal (state_after (machine O) s (e ∷ es))).session.own ≡ script ∷ [] → ⊥
   over script s e es own run at_end before after =
       let is = by-first e own.0 in
-      let here : bottom (terminal_after (terminal s) e.event).own < length script = after-boot (terminal s) e.event e.carry script at_end before (makes-step O s 0 e is run.0) in
+      let here : bottom (terminal_after (terminal s) e).session.own < length script = after-boot (terminal s) e script at_end before (makes-step O s 0 e is run.0) in
       let later = bottom-after (next_state (machine O) s e) es own.1 in
-      let same = ap (λ (t : TerminalState). bottom t.own) (own-changed s e own.0) in
+      let same = ap (λ (t : TerminalState). bottom t.session.own) (own-changed s e own.0) in
       let last = ap bottom after in
       omega arith
 
   pub boot-same : (script : List (List ℕ)) (s : State (machine O)) (bs cs : List Entry) → AllByRecursion IsOwn bs → AllByRecursion IsOwn cs
       → IsRun (machine O) s bs → IsRun (machine O) s cs
       → IsAtBootEnd (terminal (state_after (machine O) s bs)) → IsAtBootEnd (terminal (state_after (machine O) s cs))
-      → (terminal (state_after (machine O) s bs)).own ≡ script ∷ [] → (terminal (state_after (machine O) s cs)).own ≡ script ∷ [] → bs ≡ cs
+      → (terminal (state_after (machine O) s bs)).session.own ≡ script ∷ [] → (terminal (state_after (machine O) s cs)).session.own ≡ script ∷ [] → bs ≡ cs
   boot-same script s [] [] own mine run ran at_end ended within inside = refl
   boot-same script s [] (c ∷ cs) own mine run ran at_end ended within inside = absurd (over script s c cs mine ran at_end within inside)
   boot-same script s (b ∷ bs) [] own mine run ran at_end ended within inside = absurd (over script s b bs own run ended inside within)
@@ -66,7 +66,7 @@ module _ (O : Origin) where
       let head : b ≡ c = next-unique O s 0 b c (by-first b own.0) (by-first c mine.0) run.0 ran.0 in
       let Runs : Entry → Type 0 = λ z. IsRun (machine O) (next_state (machine O) s z) cs in
       let Ends : Entry → Type 0 = λ z. IsAtBootEnd (terminal (state_after (machine O) (next_state (machine O) s z) cs)) in
-      let Within : Entry → Type 0 = λ z. (terminal (state_after (machine O) (next_state (machine O) s z) cs)).own ≡ script ∷ [] in
+      let Within : Entry → Type 0 = λ z. (terminal (state_after (machine O) (next_state (machine O) s z) cs)).session.own ≡ script ∷ [] in
       let back = sym head in
       let tail : bs ≡ cs = boot-same script (next_state (machine O) s b) bs cs own.1 mine.1 run.1 (subst Runs back ran.1) at_end (subst Ends back ended) within (subst Within back inside) in
       λ i. head i ∷ tail i

@@ -1,4 +1,6 @@
 mod Sources
+mod Told
+pub mod Guests
 pub mod Unique
 mod Scripts
 mod Boots
