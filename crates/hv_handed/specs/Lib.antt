@@ -1,0 +1,3 @@
+-- What steps hand over in code, and when components take them.
+pub mod Given
+pub mod Takes

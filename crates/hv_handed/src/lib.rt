@@ -1,0 +1,8 @@
+//! What a step hands from one component to another, as code has it, and when a component takes a step.
+#![tactic(auto)]
+
+mod carry;
+mod pending;
+
+pub use carry::{Carry, Handed};
+pub use pending::Pending;
