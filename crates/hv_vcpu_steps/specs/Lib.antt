@@ -1,0 +1,3 @@
+-- What the contracts of VCPUs' steps speak of.
+pub mod Departures
+pub mod Instructions
