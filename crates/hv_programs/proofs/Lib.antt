@@ -1,0 +1,4 @@
+pub mod Pins
+pub mod Each
+pub mod Places
+pub mod Asks

@@ -1,0 +1,4 @@
+pub mod Owed
+pub mod Hart
+pub mod Ask
+pub mod Line
