@@ -1,0 +1,4 @@
+-- What is proved of a board's cells.
+pub mod HeldLemmas
+pub mod DoneLemmas
+pub mod PlaceLemmas

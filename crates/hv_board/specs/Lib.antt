@@ -1,0 +1,5 @@
+-- The components of a board on one thread.
+pub mod Places
+pub mod Held
+pub mod Done
+pub mod Carrying

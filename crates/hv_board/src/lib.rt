@@ -1,0 +1,15 @@
+//! The components of a board on one thread.
+//!
+//! Terms: a cell holds a component, with the stamp of the last event that touched it; its place is
+//! where it stands among the cells, in the order of locks.
+#![tactic(auto)]
+
+mod carry;
+mod cell;
+mod layout;
+#[cfg(test)]
+mod tests;
+
+pub use carry::{lift_all, put_all};
+pub use cell::Cell;
+pub use layout::Layout;
