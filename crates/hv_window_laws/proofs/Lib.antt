@@ -1,0 +1,10 @@
+pub mod Lists
+pub mod Slots
+pub mod Births
+pub mod Frames
+pub mod Steps
+pub mod Runs
+pub mod Accesses
+pub mod Answered
+pub mod Rows
+pub mod Legal
