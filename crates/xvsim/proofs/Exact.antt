@@ -1,6 +1,6 @@
 -- For each input one answer is due, but for those of a good input and those of any.
 use Rattle.std.proofs.Common.{◌≡◌, ℕ, ◌+◌, ◌<◌, ◌≤◌, List, Option, Some, None, inl, inr, length, refl, sym, ap, subst, ◌∙◌, arith}
-use Rattle.std.specs.Prelude.{IfSome, Err, codes, [], ◌∷◌}
+use Rattle.std.specs.Prelude.{IfSome, Err, codes, [], ◌∷◌, ◌⊎◌}
 use Rattle.hv_kinds.specs.declared.limit.LimitName.{LimitName}
 use Rattle.hv_kinds.specs.declared.limit.LimitName.TheVariants as limit
 use Rattle.hv_bundle.specs.declared.file.File.{File}
@@ -11,8 +11,9 @@ use Rattle.hv_host.specs.declared.refusal.BoardRefusal.{BoardRefusal}
 use Rattle.hv_host.specs.declared.refusal.BoardRefusal.TheVariants as board
 use Rattle.hv_host.specs.Boards.{Says, IsWantOfMemory, AreOneRefusal}
 use Rattle.hv_host.proofs.Said.{no_refusal, one_refusal}
+use Rattle.xvsim.proofs.Named.{input_not_gen}
 use Rattle.xvsim.proofs.Told.{due_here}
-use Rattle.xvsim.specs.Words.{AreWords}
+use Rattle.xvsim.specs.Words.{AreInputWords, AreAnyGenWords, AreWords}
 use Rattle.xvsim.specs.Opening.{host_text}
 use Rattle.xvsim.specs.declared.limits.TheConstants.{MOST_BYTES}
 use Rattle.xvsim.specs.Limits.{PassesOwnLimit, own, host, AreWithinLimits, IsInput, AreGood}
@@ -140,36 +141,52 @@ no_finding bytes why good (inside files input reason) =
 data Verdict (words : List (List ℕ)) (bytes : List ℕ) (s : Status) : Type 0 where
   of_any : IsOfAny s → Verdict words bytes s
   other_words : (AreWords words → ⊥) → s ≡ status.Usage → Verdict words bytes s
-  refused : (why : InputRefusal) → AreWords words → Finding bytes why → s ≡ status_of why → Verdict words bytes s
-  of_good : IsOfGood s → AreWords words → AreGoodBytes bytes → Verdict words bytes s
+  refused : (why : InputRefusal) → AreInputWords words → Finding bytes why → s ≡ status_of why → Verdict words bytes s
+  of_good : IsOfGood s → AreInputWords words → AreGoodBytes bytes → Verdict words bytes s
+  of_gen : IsOfGood s → AreAnyGenWords words → Verdict words bytes s
 
-refused_for : (words : List (List ℕ)) (bytes : List ℕ) (why : InputRefusal) → IsOwn why → AreWords words → IsDueForBytes bytes why → Verdict words bytes (status_of why)
-refused_for words bytes why is of due = refused why of (finding_of bytes why is due) refl
+-- a refusal that is due for the bytes, or not at all
+refused_for : (words : List (List ℕ)) (bytes : List ℕ) (why : InputRefusal) → IsOwn why → (AreInputWords words × IsDueForBytes bytes why) ⊎ (AreAnyGenWords words × ⊥)
+    → Verdict words bytes (status_of why)
+refused_for words bytes why is (inl due) = refused why due.0 (finding_of bytes why is due.1) refl
+refused_for words bytes why is (inr gen) = absurd gen.1
+
+-- an answer that is due for good bytes, or for the words of `gen`
+good_for : (words : List (List ℕ)) (bytes : List ℕ) (s : Status) → IsOfGood s → (AreInputWords words × AreGoodBytes bytes) ⊎ (AreAnyGenWords words × Unit {0}) → Verdict words bytes s
+good_for words bytes s good (inl due) = of_good good due.0 due.1
+good_for words bytes s good (inr gen) = of_gen good gen.0
 
 verdict_of : (words : List (List ℕ)) (bytes : List ℕ) (s : Status) → IsDue words bytes s → Verdict words bytes s
 verdict_of words bytes status.Usage due = other_words due refl
 verdict_of words bytes status.ReadFault due = of_any tt
 verdict_of words bytes status.OutOfMemory due = of_any tt
-verdict_of words bytes (status.Limit name number) due = refused_for words bytes (refusal.Limit name number) tt due.0 due.1
-verdict_of words bytes (status.BadBundle offset) due = refused_for words bytes (refusal.BadBundle offset) tt due.0 due.1
-verdict_of words bytes (status.BadTree offset) due = refused_for words bytes (refusal.BadTree offset) tt due.0 due.1
-verdict_of words bytes (status.BadHost path) due = refused_for words bytes (refusal.BadHost path) tt due.0 due.1
-verdict_of words bytes status.Done due = of_good tt due.0 due.1
-verdict_of words bytes status.WriteFault due = of_good tt due.0 due.1
+verdict_of words bytes (status.Limit name number) due = refused_for words bytes (refusal.Limit name number) tt due
+verdict_of words bytes (status.BadBundle offset) due = refused_for words bytes (refusal.BadBundle offset) tt due
+verdict_of words bytes (status.BadTree offset) due = refused_for words bytes (refusal.BadTree offset) tt due
+verdict_of words bytes (status.BadHost path) due = refused_for words bytes (refusal.BadHost path) tt due
+verdict_of words bytes status.Done due = good_for words bytes status.Done tt due
+verdict_of words bytes status.WriteFault due = good_for words bytes status.WriteFault tt due
 verdict_of words bytes (status.StampsSpent stamp) due = of_good tt (inl due.0) due.1
 
 one_verdict : (words : List (List ℕ)) (bytes : List ℕ) (one other : Status) → Verdict words bytes one → Verdict words bytes other → IsAnswerFor one other
 one_verdict words bytes one other (of_any any) there = came_to_any any
 one_verdict words bytes one other here (of_any any) = due_to_any any
 one_verdict words bytes one other (other_words none is) (other_words never it) = same (is ∙ sym it)
-one_verdict words bytes one other (other_words none is) (refused why of finding it) = absurd (none of)
-one_verdict words bytes one other (other_words none is) (of_good good of bytes_good) = absurd (none of)
-one_verdict words bytes one other (refused why of finding is) (other_words none it) = absurd (none of)
+one_verdict words bytes one other (other_words none is) (refused why of finding it) = absurd (none (inl of))
+one_verdict words bytes one other (other_words none is) (of_good good of bytes_good) = absurd (none (inl of))
+one_verdict words bytes one other (other_words none is) (of_gen good gen) = absurd (none (inr gen))
+one_verdict words bytes one other (refused why of finding is) (other_words none it) = absurd (none (inl of))
 one_verdict words bytes one other (refused why of finding is) (refused cause of' found it) = same (is ∙ ap status_of (one_finding bytes why cause finding found) ∙ sym it)
 one_verdict words bytes one other (refused why of finding is) (of_good good of' bytes_good) = absurd (no_finding bytes why bytes_good finding)
-one_verdict words bytes one other (of_good good of bytes_good) (other_words none it) = absurd (none of)
+one_verdict words bytes one other (refused why of finding is) (of_gen good gen) = absurd (input_not_gen words of gen)
+one_verdict words bytes one other (of_good good of bytes_good) (other_words none it) = absurd (none (inl of))
 one_verdict words bytes one other (of_good good of bytes_good) (refused why of' finding it) = absurd (no_finding bytes why bytes_good finding)
 one_verdict words bytes one other (of_good good of bytes_good) (of_good fine of' bytes_fine) = both_good good fine
+one_verdict words bytes one other (of_good good of bytes_good) (of_gen fine gen) = both_good good fine
+one_verdict words bytes one other (of_gen good gen) (other_words none it) = absurd (none (inr gen))
+one_verdict words bytes one other (of_gen good gen) (refused why of finding it) = absurd (input_not_gen words of gen)
+one_verdict words bytes one other (of_gen good gen) (of_good fine of bytes_fine) = both_good good fine
+one_verdict words bytes one other (of_gen good gen) (of_gen fine other_gen) = both_good good fine
 
 -- an answer that came because it was due is one for each answer that is due
 pub exact_of : (words : List (List ℕ)) (told : Option (List ℕ)) (came : Status) → IfSome told (λ bytes. IsDue words bytes came) → IfSome told (λ bytes. (due : Status) → IsDue words bytes due → IsAnswerFor came due)

@@ -1,4 +1,5 @@
 pub mod Counts
 pub mod Told
 pub mod Texts
+pub mod Named
 pub mod Exact

@@ -1,5 +1,5 @@
 -- What holds of the bytes that a source tells.
-use Rattle.std.proofs.Common.{◌≡◌, ℕ, List, Option, Some, None, Bool, refl, sym, ap, subst, ◌∙◌}
+use Rattle.std.proofs.Common.{◌≡◌, ℕ, List, Option, Some, None, Bool, inl, inr, refl, sym, ap, subst, ◌∙◌}
 use Rattle.std.specs.Prelude.{IfSome, IsTrue}
 use Rattle.std.specs.Io.KnownBytes.{IsAtEnd}
 use Rattle.hv_bundle.specs.declared.file.File.{File}
@@ -10,12 +10,12 @@ use Rattle.xvsim.specs.declared.kept.KeptRunOf.{KeptRunOf}
 use Rattle.xvsim.specs.declared.status.Status.{Status}
 use Rattle.xvsim.specs.declared.status.Status.TheVariants as status
 use Rattle.xvsim.specs.Given.{GaveBytes}
-use Rattle.xvsim.specs.Words.{AreRunWords, AreWords}
+use Rattle.xvsim.specs.Words.{AreRunWords, AreInputWords, AreAnyGenWords}
 use Rattle.xvsim.specs.Opening.{IsOpening, IsOpeningOf}
 use Rattle.xvsim.specs.Input.{IsWhole, IsReadFrom, IsAllOf}
 use Rattle.xvsim.specs.Run.{IsRunOf}
 use Rattle.xvsim.specs.Check.{IsCheckOf, check_text}
-use Rattle.xvsim.specs.Due.{AreGoodBytes, IsDueStatus, IsDue}
+use Rattle.xvsim.specs.Due.{AreGoodBytes, IsDueStatus, IsDue, IsOfGen}
 
 -- what holds of all bytes
 pub always : (P : List ℕ → Type 0) (t : Option (List ℕ)) → ((bytes : List ℕ) → P bytes) → IfSome t P
@@ -88,19 +88,29 @@ check_of told left ended input text whole all is =
       text_is = is ∙ ap (λ (size : ℕ). check_text input.files.items size input.board) read.size;
     }) all.read
 
--- an answer that is due for the bytes is due for the words of a command, and those of a run where the run was stopped
-pub due_here : (words : List (List ℕ)) (bytes : List ℕ) (s : Status) → AreWords words → ((stamp : ℕ) → s ≡ status.StampsSpent stamp → AreRunWords words) → IsDueStatus bytes s → IsDue words bytes s
+-- an answer that is due for the bytes is due for the words of a command that reads them, and those of a run where the run was stopped
+pub due_here : (words : List (List ℕ)) (bytes : List ℕ) (s : Status) → AreInputWords words → ((stamp : ℕ) → s ≡ status.StampsSpent stamp → AreRunWords words) → IsDueStatus bytes s → IsDue words bytes s
 due_here words bytes status.Usage of stopped due = absurd due
 due_here words bytes (status.StampsSpent stamp) of stopped due = (stopped stamp refl, due)
-due_here words bytes status.ReadFault of stopped due = (of, due)
-due_here words bytes status.OutOfMemory of stopped due = (of, due)
-due_here words bytes (status.Limit name number) of stopped due = (of, due)
-due_here words bytes (status.BadBundle offset) of stopped due = (of, due)
-due_here words bytes (status.BadTree offset) of stopped due = (of, due)
-due_here words bytes (status.BadHost path) of stopped due = (of, due)
-due_here words bytes status.Done of stopped due = (of, due)
-due_here words bytes status.WriteFault of stopped due = (of, due)
+due_here words bytes status.ReadFault of stopped due = inl (of, due)
+due_here words bytes status.OutOfMemory of stopped due = inl (of, due)
+due_here words bytes (status.Limit name number) of stopped due = inl (of, due)
+due_here words bytes (status.BadBundle offset) of stopped due = inl (of, due)
+due_here words bytes (status.BadTree offset) of stopped due = inl (of, due)
+due_here words bytes (status.BadHost path) of stopped due = inl (of, due)
+due_here words bytes status.Done of stopped due = inl (of, due)
+due_here words bytes status.WriteFault of stopped due = inl (of, due)
 
-pub due_of : (words : List (List ℕ)) (told : Option (List ℕ)) (s : Status) → AreWords words → ((stamp : ℕ) → s ≡ status.StampsSpent stamp → AreRunWords words)
+pub due_of : (words : List (List ℕ)) (told : Option (List ℕ)) (s : Status) → AreInputWords words → ((stamp : ℕ) → s ≡ status.StampsSpent stamp → AreRunWords words)
     → IfSome told (λ bytes. IsDueStatus bytes s) → IfSome told (λ bytes. IsDue words bytes s)
 due_of words told s of stopped due = follows (λ bytes. IsDueStatus bytes s) (λ bytes. IsDue words bytes s) told (λ bytes d. due_here words bytes s of stopped d) due
+
+-- an answer of `gen` is due for its words, whatever the bytes are
+gen_here : (words : List (List ℕ)) (bytes : List ℕ) (s : Status) → AreAnyGenWords words → IsOfGen s → IsDue words bytes s
+gen_here words bytes status.Done gen of = inr (gen, of)
+gen_here words bytes status.WriteFault gen of = inr (gen, of)
+gen_here words bytes status.OutOfMemory gen of = inr (gen, of)
+gen_here words bytes s gen of = absurd of
+
+pub gen_due : (words : List (List ℕ)) (told : Option (List ℕ)) (s : Status) → AreAnyGenWords words → IsOfGen s → IfSome told (λ bytes. IsDue words bytes s)
+gen_due words told s gen of = always (λ bytes. IsDue words bytes s) told (λ bytes. gen_here words bytes s gen of)

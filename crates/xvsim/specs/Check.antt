@@ -11,7 +11,7 @@ use Rattle.hv_plan.specs.declared.host.Host.{Host}
 use Rattle.hv_kinds.specs.Cause.{cause_word}
 use Rattle.hv_host.specs.declared.board.Board.{Board}
 use Rattle.hv_region.specs.declared.fault.Fault.{Fault}
-use Rattle.hv_model.specs.Report.{line}
+use Rattle.hv_model.specs.Transcript.{line}
 use Rattle.xvsim.specs.Opening.{HaveBoard}
 use Rattle.xvsim.specs.Limits.{IsInput, AreWithinLimits}
 

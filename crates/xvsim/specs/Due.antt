@@ -1,7 +1,7 @@
 -- When each answer comes, by the words and the bytes.
-use Rattle.std.specs.Prelude.{◌≡◌, ℕ, List}
+use Rattle.std.specs.Prelude.{◌≡◌, ◌⊎◌, ℕ, List}
 use Rattle.hv_bundle.specs.declared.file.File.{File}
-use Rattle.xvsim.specs.Words.{AreRunWords, AreWords}
+use Rattle.xvsim.specs.Words.{AreRunWords, AreInputWords, AreAnyGenWords, AreWords}
 use Rattle.xvsim.specs.Limits.{IsInput, AreGood}
 use Rattle.xvsim.specs.Refusal.{IsDueForBytes}
 use Rattle.xvsim.specs.declared.refusal.InputRefusal.TheVariants as refusal
@@ -14,7 +14,7 @@ pub record AreGoodBytes (bytes : List ℕ) : Type 0 where
   pub input : IsInput bytes files
   pub good : AreGood files
 
--- what the bytes have to be for an answer, where the words name a command
+-- what the bytes have to be for an answer, where the words are those of a command that reads them
 abbrev pub IsDueStatus : List ℕ → Status → Type 0
 IsDueStatus bytes status.Usage = ⊥
 IsDueStatus bytes status.ReadFault = IsDueForBytes bytes refusal.ReadFault
@@ -27,11 +27,19 @@ IsDueStatus bytes status.Done = AreGoodBytes bytes
 IsDueStatus bytes status.WriteFault = AreGoodBytes bytes
 IsDueStatus bytes (status.StampsSpent stamp) = AreGoodBytes bytes
 
--- when an answer is due: other words give only Usage, only a run is stopped by its stamps, and else the bytes decide
+-- an answer that `gen` gives, whatever the bytes are
+abbrev pub IsOfGen : Status → Type 0
+IsOfGen status.Done = Unit {0}
+IsOfGen status.WriteFault = Unit {0}
+IsOfGen status.OutOfMemory = Unit {0}
+IsOfGen s = ⊥
+
+-- when an answer is due: other words give only Usage, only a run is stopped by its stamps, `gen` reads nothing, and else
+-- the bytes decide
 abbrev pub IsDue : List (List ℕ) → List ℕ → Status → Type 0
 IsDue words bytes status.Usage = AreWords words → ⊥
 IsDue words bytes (status.StampsSpent stamp) = AreRunWords words × IsDueStatus bytes (status.StampsSpent stamp)
-IsDue words bytes s = AreWords words × IsDueStatus bytes s
+IsDue words bytes s = (AreInputWords words × IsDueStatus bytes s) ⊎ (AreAnyGenWords words × IsOfGen s)
 
 -- an answer that any input may get: a fault of reading, or want of memory
 abbrev pub IsOfAny : Status → Type 0

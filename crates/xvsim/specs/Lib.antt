@@ -7,10 +7,12 @@ pub mod Made
 pub mod Run
 pub mod Input
 pub mod Check
+pub mod Gen
 pub mod Due
 pub use Rattle.hv_base.specs.Count
 pub use Rattle.hv_base.specs.Writing
 pub use Rattle.hv_bundle.specs.Bundle
+pub use Rattle.hv_gen.specs.Generated
 pub use Rattle.hv_host.specs.Boards
 pub use Rattle.hv_model.specs.Origin
 pub use Rattle.hv_model.specs.Files

@@ -1,10 +1,11 @@
-//! The commands: a run of a bundle with its report, and a check of one.
+//! The commands: a run of a bundle with its report, a check of one, and a bundle made of a number.
 //!
 //! Terms: the opening is what a run begins with; the history is its events by rising logical time
 //! stamp; the report is the text of what the terminals showed and of the history.
 #![tactic(auto)]
 
 mod check;
+mod generate;
 mod input;
 mod kept;
 mod limits;
@@ -17,7 +18,7 @@ mod words;
 
 pub use kept::{Final, Kept, KeptOf, KeptRun, KeptRunOf};
 pub use status::Status;
-pub use top::{check_bundle, xvsim};
+pub use top::{check_bundle, gen_bundle, xvsim};
 
 #[cfg(test)]
 mod tests;

@@ -5,7 +5,9 @@ ghost use Rattle.std.specs.Fmt.{decimal};
 ghost use Rattle.hv_emu.specs.Device.{DevState};
 ghost use Rattle.hv_event.specs.Line.{event_text};
 ghost use Rattle.hv_model.specs.Origin.{origin_of, terminals};
-ghost use Rattle.hv_model.specs.Report.{line, titled, terminals_text, heading, AreTranscripts, IsReport};
+ghost use Rattle.hv_model.specs.Report.{titled, terminals_text, heading, AreTranscripts, IsReport};
+ghost use Rattle.hv_model.specs.States.{ArePlain};
+ghost use Rattle.hv_model.specs.Transcript.{line};
 
 use hv_event::{Event, print_event};
 use hv_model::Opening;
@@ -75,8 +77,9 @@ pub fn report_of_run(
     history: &[Event],
     transcripts: &Strings,
 ) -> Result<Bytes, AllocError>
-    requires { (devices : List DevState)
+    requires shown { (devices : List DevState)
         → AreTranscripts (origin_of opening.now devices) history.now terminals transcripts.now }
+    requires plain { ArePlain history.now }
     ensures { IfOk result (λ text. (devices : List DevState)
         → IsReport (origin_of opening.now devices) history.now false false text) }
 {

@@ -90,3 +90,12 @@ fn refuses_other_words_unread(rt: HostRuntime) -> Result<(), Fail> {
     assert_eq!(rt; refused.status, Status::Usage);
     Ok(())
 }
+
+#[test]
+fn makes_a_bundle_of_a_number(rt: HostRuntime) -> Result<(), Fail> {
+    let alloc = rt.alloc();
+    let mut sink = MemSink::with_room(alloc, 4096, Vec::new(alloc))?;
+    assert_eq!(rt; gen_bundle(alloc, 0, &mut sink), Status::Done);
+    assert_eq!(rt; sink.bytes().len(), 2375);
+    Ok(())
+}

@@ -1,15 +1,19 @@
 //! The calls.
 ghost use Rattle.std.specs.Prelude.{◌≡◌, ◌≢◌, ℕ, All, map, string_bytes, IfSome, IsSomeAnd, IsTrue};
+ghost use Rattle.std.specs.Io.KnownBytes.{Appends};
 ghost use Rattle.hv_base.specs.Count.{Rose};
+ghost use Rattle.hv_base.specs.Writing.{AppendsFront};
 ghost use Rattle.hv_emu.specs.Device.{IsInReset};
 ghost use Rattle.xvsim.specs.declared.status.Status.{Status};
 ghost use Rattle.xvsim.specs.Given.{GaveBytes};
-ghost use Rattle.xvsim.specs.Words.{AreRunWords, AreCheckWords, AreWords};
+ghost use Rattle.xvsim.specs.Words.{AreRunWords, AreCheckWords, AreGenWords, AreAnyGenWords, AreWords};
 ghost use Rattle.xvsim.specs.Run.{IsRunOf, KeepsRun, AppendsReport, AppendsReportFront, has_output, has_run};
 ghost use Rattle.xvsim.specs.Check.{IsAllRead, AppendsCheck, AppendsCheckFront};
-ghost use Rattle.xvsim.specs.Due.{IsDueStatus, IsDue, IsAnswerFor};
+ghost use Rattle.xvsim.specs.Gen.{gen_text};
+ghost use Rattle.xvsim.specs.Due.{IsDueStatus, IsDue, IsAnswerFor, IsOfGen};
 
 use crate::check::check_text;
+use crate::generate::gen_text;
 use crate::input::read_input;
 use crate::kept::KeptOf;
 use crate::run::{Made, make_run};
@@ -101,6 +105,30 @@ pub fn check_bundle<S: Source, K: Sink>(alloc: Global, source: &mut S, sink: &mu
     }
 }
 
+/// Writes the bundle that is made of a number.
+pub fn gen_bundle<K: Sink>(alloc: Global, number: u16, sink: &mut K) -> Status
+    // Where it is done exactly the bundle was written, and after a fault of the sink a front.
+    ensures made { result ≡ Status.Done
+        → Appends (K.held sink.old) (K.held sink.new) (gen_text number) }
+    ensures cut_short { result ≡ Status.WriteFault
+        → AppendsFront (K.held sink.old) (K.held sink.new) (gen_text number) }
+    ensures sink_stays { result ≢ Status.Done → result ≢ Status.WriteFault → sink.new ≡ sink.old }
+
+    // Nothing is refused.
+    ensures answers { IsOfGen result }
+
+    // A fault is answered only where it was counted in this call.
+    ensures write_fault { result ≡ Status.WriteFault → Rose (K.faults sink.old) (K.faults sink.new) }
+{
+    match gen_text(alloc, number) {
+        Ok(text) => match write_all(sink, text.as_slice()) {
+            Ok(()) => Status::Done,
+            Err(_) => Status::WriteFault,
+        },
+        Err(_) => Status::OutOfMemory,
+    }
+}
+
 /// Carries out the command that the words name. A run begins with the emulators `parts`, each in its
 /// reset state, and what it leaves of them it keeps with the run.
 pub fn xvsim<S: Source, K: Sink, E: Emulator>(
@@ -140,6 +168,17 @@ pub fn xvsim<S: Source, K: Sink, E: Emulator>(
         → GaveBytes (S.left source.old) (AppendsCheck (K.held sink.old) (K.held sink.new)) }
     ensures check_cut { AreCheckWords (map string_bytes words.now) → result ≡ Status.WriteFault
         → GaveBytes (S.left source.old) (AppendsCheckFront (K.held sink.old) (K.held sink.new)) }
+
+    // And of the bundle that is made of a number, for which nothing is read.
+    ensures generated { (number : ℕ) → AreGenWords number (map string_bytes words.now)
+        → result ≡ Status.Done
+        → Appends (K.held sink.old) (K.held sink.new) (gen_text number) }
+    ensures generated_cut { (number : ℕ) → AreGenWords number (map string_bytes words.now)
+        → result ≡ Status.WriteFault
+        → AppendsFront (K.held sink.old) (K.held sink.new) (gen_text number) }
+    ensures generated_unread { AreAnyGenWords (map string_bytes words.now)
+        → source.new ≡ source.old }
+    ensures generated_answers { AreAnyGenWords (map string_bytes words.now) → IsOfGen result }
     ensures sink_stays { result ≢ Status.Done → result ≢ Status.WriteFault → sink.new ≡ sink.old }
 
     // A check is never stopped by its stamps.
@@ -164,6 +203,7 @@ pub fn xvsim<S: Source, K: Sink, E: Emulator>(
     match read_words(words) {
         Some(Command::Run) => run_bundle(alloc, source, sink, parts, kept),
         Some(Command::Check) => check_bundle(alloc, source, sink),
+        Some(Command::Gen(number)) => gen_bundle(alloc, number, sink),
         None => Status::Usage,
     }
 }

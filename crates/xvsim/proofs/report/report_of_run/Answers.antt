@@ -1,10 +1,12 @@
-use Rattle.std.proofs.Common.{◌≡◌, ℕ, vec_len, List, [], ◌∷◌, length, Bool, arith, refl}
+use Rattle.std.proofs.Common.{◌≡◌, ℕ, List, [], ◌∷◌, ◌++◌, codes, length, Bool, arith, refl, ap, sym, ◌∙◌}
 use Rattle.std.specs.Fmt.{decimal}
 use Rattle.std.specs.List.{flat_map}
 use Rattle.hv_event.specs.declared.event.Event.{Event}
 use Rattle.hv_event.specs.Line.{event_text}
 use Rattle.hv_model.specs.Origin.{Origin, origin_of, terminals}
-use Rattle.hv_model.specs.Report.{line, heading, terminals_text, AreTranscripts}
+use Rattle.hv_model.specs.Report.{heading, terminals_text, AreTranscripts}
+use Rattle.hv_model.specs.Transcript.{line}
+use Rattle.hv_model.proofs.StatesLemmas.{plain-states}
 use Rattle.xvsim.proofs.Texts.{report_parts}
 use Rattle.xvsim.proofs.report.report_of_run.Goals as goal
 
@@ -20,9 +22,10 @@ returns c = λ devices.
     let H = c.args.history.now in
     let texts = c.args.transcripts.now in
     let parts = report_parts (heading O Bool.false) (terminals_text terminals texts) (flat_map (λ e. line (event_text e)) H) (decimal (length H)) in
-    let shown = c.in_ok-push_terminals.ensures (as-many O H terminals texts (c.requires devices)) in
+    let With : List ℕ → List ℕ = λ states. heading O Bool.false ++ terminals_text terminals texts ++ states ++ (line (codes "history") ++ flat_map (λ e. line (event_text e)) H) ++ line (codes "end " ++ decimal (length H)) in
+    let shown = c.in_ok-push_terminals.ensures (as-many O H terminals texts (c.requires.shown devices)) in
     record {
       transcripts = texts;
-      shown = c.requires devices;
-      text_is = rw (c.in_ok-append-3.ensures.ok, c.in_ok-push_decimal.ensures.ok, c.in_ok-append-2.ensures.ok, c.in_ok-push_events.ensures, c.in_ok-append.ensures.ok, shown, c.in_ok-push_heading.ensures devices, c.from_vec-to.ensures, c.new.ensures.items) parts;
+      shown = c.requires.shown devices;
+      text_is = (rw (c.in_ok-append-3.ensures.ok, c.in_ok-push_decimal.ensures.ok, c.in_ok-append-2.ensures.ok, c.in_ok-push_events.ensures, c.in_ok-append.ensures.ok, shown, c.in_ok-push_heading.ensures devices, c.from_vec-to.ensures, c.new.ensures.items) parts) ∙ ap With (sym (plain-states H c.requires.plain));
     }

@@ -1,9 +1,9 @@
-use Rattle.std.proofs.Common.{ℕ, Option, List, map, refl, sym, subst}
+use Rattle.std.proofs.Common.{ℕ, Option, List, [], map, refl, sym, subst}
 use Rattle.std.specs.Prelude.{false}
-use Rattle.hv_emu.specs.Device.{DevState}
 use Rattle.hv_event.specs.declared.event.Event.{Event}
 use Rattle.hv_model.specs.Origin.{origin_of, terminals}
 use Rattle.hv_model.specs.Report.{AreTranscripts, IsReport}
+use Rattle.hv_model.specs.States.{ArePlain}
 use Rattle.hv_rounds.specs.Outcome.{IsOutcome}
 use Rattle.xvsim.proofs.Counts.{lines_fit}
 use Rattle.xvsim.proofs.run.make_run.Goals as goal
@@ -18,8 +18,14 @@ returns-in-Some g c =
     let outcome = subst Comes c.in-Some.is (c.in_ok-history.ensures devices) in
     (c.start_of-opening.result.opening, c.start_of-opening.ensures.opening, (refl, refl, record { legal = outcome.run; greatest = outcome.last; held = outcome.held }))
 
-pub report_of_run-requires : goal.report_of_run-requires
-report_of_run-requires g c = λ devices.
+pub report_of_run-requires-clause-plain : goal.report_of_run-requires-clause-plain
+report_of_run-requires-clause-plain g c =
+    let O = origin_of c.start_of-opening.result.opening [] in
+    let Comes : Option ℕ → Type 0 = λ spent. IsOutcome O c.in_ok-history.field-0 spent in
+    subst ArePlain (sym c.deref.ensures.value) (subst Comes c.in-None.is (c.in_ok-history.ensures [])).plain
+
+pub report_of_run-requires-clause-shown : goal.report_of_run-requires-clause-shown
+report_of_run-requires-clause-shown g c = λ devices.
     let O = origin_of c.start_of-opening.result.opening devices in
     let Comes : Option ℕ → Type 0 = λ spent. IsOutcome O c.in_ok-history.field-0 spent in
     let Show : List Event → Type 0 = λ history. AreTranscripts O history terminals c.in_ok-history.field-0.transcripts in
