@@ -8,11 +8,11 @@ ghost use Rattle.hv_rules.specs.Carry.{nothing};
 ghost use Rattle.hv_step.specs.declared.step.Step.TheVariants as steps;
 ghost use Rattle.hv_step.specs.declared.step.Tick.{Tick};
 
-use crate::handed::{hand_clock, hand_nothing};
+use crate::handed::hand_clock;
 use hv_answer::Reply;
 use hv_body::BodyOf;
 use hv_emu::Emulator;
-use hv_handed::Handed;
+use hv_handed::{Handed, hand_nothing};
 use hv_signals::{Signals, changes, parent_of};
 use hv_space::Space;
 

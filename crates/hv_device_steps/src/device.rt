@@ -9,11 +9,11 @@ ghost use Rattle.hv_step.specs.declared.step.Devreset.{Devreset};
 ghost use Rattle.hv_step.specs.declared.step.Output.{Output};
 ghost use Rattle.hv_step.specs.declared.step.Step.TheVariants as steps;
 
-use crate::handed::{hand_body, hand_region};
+use crate::handed::hand_body;
 use hv_answer::Reply;
 use hv_body::BodyOf;
 use hv_emu::Emulator;
-use hv_handed::Handed;
+use hv_handed::{Handed, hand_region};
 use hv_refusal::Refusal;
 use hv_signals::{Signals, changes};
 use hv_step::Feed;

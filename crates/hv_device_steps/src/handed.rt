@@ -7,27 +7,9 @@ ghost use Rattle.hv_handed.specs.Given.{given};
 
 use hv_body::BodyOf;
 use hv_emu::Emulator;
-use hv_handed::{Carry, Handed};
+use hv_handed::{Carry, Handed, hand_region};
 use hv_signals::parent_of;
 use std::snapshot::Snapshot;
-
-/// Nothing is handed over.
-pub fn hand_nothing<E: Emulator>() -> Handed<E>
-    ensures { given E.state result.value ≡ nothing }
-{
-    let carry = Carry::nothing();
-    Snapshot::of(&carry)
-}
-
-/// A region's row, and where its interrupts go.
-pub fn hand_region<E: Emulator>(row: u8, parent: Option<(u8, u8)>) -> Handed<E>
-    ensures { given E.state result.value ≡ record nothing { row = Some row; parent = parent } }
-{
-    let mut carry = Carry::nothing();
-    carry.row = Some(row);
-    carry.parent = parent;
-    Snapshot::of(&carry)
-}
 
 /// The row of a region with this body, and where its interrupts go.
 pub fn hand_body<E: Emulator>(row: u8, body: &BodyOf<E>) -> Handed<E>

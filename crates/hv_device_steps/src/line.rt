@@ -8,11 +8,10 @@ ghost use Rattle.hv_rules.specs.Body.{ShowsPins, index_of, is_born, line_in, pin
 ghost use Rattle.hv_rules.specs.Carry.{Carry, nothing};
 ghost use Rattle.hv_step.specs.declared.step.Step.TheVariants as steps;
 
-use crate::handed::hand_nothing;
 use hv_answer::{Reply, Sampled};
 use hv_body::BodyOf;
 use hv_emu::Emulator;
-use hv_handed::Handed;
+use hv_handed::{Handed, hand_nothing};
 use hv_kinds::Pins;
 use hv_signals::{Signals, changes, is_born};
 use hv_step::{Pin, Sample};

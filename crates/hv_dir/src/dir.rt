@@ -1,7 +1,7 @@
 //! The directory of the guests.
 ghost use Rattle.std.specs.Prelude.{◌≡◌, ◌≢◌, ◌<◌, Some, Ok, Err, None, IfOk, IfErr, OnOk, OnErr, IfSome, is_none, position};
 ghost use Rattle.std.specs.Option.{option_and_then, option_copied};
-ghost use Rattle.hv_dir.specs.Directory.{no_guests, entry_at, entry_of, slot_of, free_slot, is_named, is_stage, at_next, claimed, guest_at, turned, IsDueOrMemory};
+ghost use Rattle.hv_dir.specs.Directory.{AreEntries, no_guests, entry_at, entry_of, slot_of, free_slot, is_named, is_stage, at_next, claimed, guest_at, turned, IsDueOrMemory};
 ghost use Rattle.hv_text.specs.declared.limits.TheConstants.{SLOTS};
 ghost use Rattle.hv_dir.specs.declared.refusal.DirRefusal.TheVariants.{Memory};
 
@@ -50,6 +50,7 @@ impl Dir {
     pub fn at_slot(&self, slot: u8) -> Option<&Entry>
         ensures entry { option_copied result ≡ entry_at self.now slot }
         ensures slot { IfSome result (λ entry. entry.now.slot ≡ slot) }
+        ensures entries { AreEntries self.now.entries }
     {
         match self.entries.get(slot as usize) {
             Some(entry) => entry.as_ref(),

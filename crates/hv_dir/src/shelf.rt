@@ -1,5 +1,5 @@
 //! The pool of devices.
-ghost use Rattle.std.specs.Prelude.{◌≡◌, ◌<◌, ◌≤◌, All, map, Some, None, IfOk, OnOk, OnErr, position};
+ghost use Rattle.std.specs.Prelude.{◌≡◌, ◌<◌, ◌≤◌, All, is_some, map, Some, None, IfOk, OnOk, OnErr, position};
 ghost use Rattle.hv_emu.specs.Device.{has_name, IsInReset};
 ghost use Rattle.hv_dir.specs.Pool.{devices_of, place_of, taken, given_back};
 
@@ -61,6 +61,13 @@ impl<E: Emulator> ShelfOf<E> {
             }
         }
         None
+    }
+
+    /// Whether some device has one of the names.
+    pub fn has(&self, names: &Strings) -> bool
+        ensures { result ≡ is_some (place_of (devices_of E.state self.now) names.now) }
+    {
+        self.find_any(names).is_some()
     }
 
     /// Takes a device out: the first name that some device has decides, and of the devices that have

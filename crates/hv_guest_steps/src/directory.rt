@@ -11,11 +11,11 @@ ghost use Rattle.hv_step.specs.declared.step.Guests.{Guests};
 ghost use Rattle.hv_step.specs.declared.step.Step.TheVariants as step;
 
 use crate::admission::refusal_of;
-use crate::handed::{guest_handed, nothing_handed, stop_handed};
+use crate::handed::{guest_handed, stop_handed};
 use hv_answer::Reply;
 use hv_dir::{Dir, DirRefusal};
 use hv_emu::Emulator;
-use hv_handed::Handed;
+use hv_handed::{Handed, hand_nothing};
 use hv_kinds::Generation;
 use hv_listing::{GuestList, ListedGuest};
 use hv_refusal::Refusal;
@@ -31,7 +31,7 @@ pub fn guests<E: Emulator>(alloc: Global, dir: &Dir) -> Result<(Reply, Handed<E>
     ensures handed { IfOk result (λ made. given E.state made.1.value ≡ nothing) }
 {
     let guests = listed_guests(alloc, dir)?;
-    Ok((Reply::Guests(guests), nothing_handed()))
+    Ok((Reply::Guests(guests), hand_nothing()))
 }
 
 /// The guests by slot.

@@ -10,13 +10,6 @@ use hv_refusal::Refusal;
 use hv_region::RegionPlan;
 use std::snapshot::Snapshot;
 
-/// Nothing.
-pub fn nothing_handed<E: Emulator>() -> Handed<E>
-    ensures { given E.state result.value ≡ nothing }
-{
-    Snapshot::of(&Carry::nothing())
-}
-
 /// Why a step is refused before a component is asked, if it is.
 pub fn stop_handed<E: Emulator>(stopped: Option<Snapshot<Refusal>>) -> Handed<E>
     ensures { given E.state result.value

@@ -7,10 +7,9 @@ ghost use Rattle.hv_rules.specs.Space.{listed};
 ghost use Rattle.hv_step.specs.declared.step.Regions.{Regions};
 ghost use Rattle.hv_step.specs.declared.step.Step.TheVariants as step;
 
-use crate::handed::nothing_handed;
 use hv_answer::Reply;
 use hv_emu::Emulator;
-use hv_handed::Handed;
+use hv_handed::{Handed, hand_nothing};
 use hv_listing::ListedWindow;
 use hv_region::Window;
 use hv_space::Space;
@@ -23,7 +22,7 @@ pub fn regions<E: Emulator>(alloc: Global, space: &Space) -> Result<(Reply, Hand
     ensures handed { IfOk result (λ made. given E.state made.1.value ≡ nothing) }
 {
     let windows = listed_windows(alloc, space.windows())?;
-    Ok((Reply::Regions(Ok(windows)), nothing_handed()))
+    Ok((Reply::Regions(Ok(windows)), hand_nothing()))
 }
 
 /// The windows as they are listed.

@@ -2,7 +2,9 @@
 #![tactic(auto)]
 
 mod carry;
+mod hands;
 mod pending;
 
 pub use carry::{Carry, Handed};
+pub use hands::{hand_nothing, hand_region};
 pub use pending::Pending;

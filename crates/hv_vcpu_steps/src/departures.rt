@@ -13,11 +13,10 @@ ghost use Rattle.hv_step.specs.declared.step.Vdrop.{Vdrop};
 ghost use Rattle.hv_step.specs.declared.step.Step.TheVariants as steps;
 ghost use Rattle.hv_vcpu_steps.specs.Departures.{leaves};
 
-use crate::hands::hand_nothing;
 use crate::moves::make_move;
 use hv_answer::Reply;
 use hv_emu::Emulator;
-use hv_handed::Handed;
+use hv_handed::{Handed, hand_nothing};
 use hv_queue::Queue;
 use hv_step::{Halt, Pause, Reset, Vdrop};
 use hv_vcpu::{Move, Vcpu};

@@ -10,13 +10,6 @@ use hv_region::VcpuPlan;
 use hv_vcpu::Vcpu;
 use std::snapshot::Snapshot;
 
-/// Nothing is handed over.
-pub(crate) fn hand_nothing<E: Emulator>() -> Handed<E>
-    ensures { given E.state result.value ≡ nothing }
-{
-    Snapshot::of(&Carry::nothing())
-}
-
 /// The priority of a VCPU.
 pub(crate) fn hand_priority<E: Emulator>(vcpu: &Vcpu) -> Handed<E>
     ensures { given E.state result.value

@@ -15,13 +15,12 @@ ghost use Rattle.hv_vcpu.specs.Instruction.{IsAccess};
 ghost use Rattle.hv_vcpu.specs.Table.{is_running};
 ghost use Rattle.hv_vcpu_steps.specs.Instructions.{IsPending, fetches_at, is_run_of};
 
-use crate::hands::hand_nothing;
 use crate::moves::runs_on;
 use hv_answer::{Fetched, Outcome, Reply};
 use hv_emu::Emulator;
 use hv_exec::After;
 use hv_exec::causes::{INSTRUCTION_ACCESS_FAULT, LOAD_ACCESS_FAULT, STORE_ACCESS_FAULT};
-use hv_handed::{Handed, Pending};
+use hv_handed::{Handed, Pending, hand_nothing};
 use hv_kinds::{AccessKind, Direction};
 use hv_step::{Access, Fault, Fetch};
 use hv_trap::choose;

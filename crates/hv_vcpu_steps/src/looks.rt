@@ -7,11 +7,10 @@ ghost use Rattle.hv_rules.specs.Handed.{handed_over};
 ghost use Rattle.hv_rules.specs.Vcpu.{look_in, no_registers, shown_registers};
 ghost use Rattle.hv_step.specs.declared.step.Step.TheVariants as steps;
 
-use crate::hands::hand_nothing;
 use hv_answer::Reply;
 use hv_emu::Emulator;
 use hv_exec::Ctx;
-use hv_handed::Handed;
+use hv_handed::{Handed, hand_nothing};
 use hv_kinds::State;
 use hv_look::{BoxedLook, Csrs, Look as Shown, Registers};
 use hv_step::Look;

@@ -10,11 +10,11 @@ ghost use Rattle.hv_rules.specs.Vcpu.{is_of};
 ghost use Rattle.hv_step.specs.declared.step.Step.TheVariants as steps;
 ghost use Rattle.hv_text.specs.declared.limits.TheConstants.{GUEST_REGIONS, VCPUS};
 
-use crate::hands::{hand_nothing, hand_priority};
+use crate::hands::hand_priority;
 use crate::moves::priority_of;
 use hv_answer::{Pinned, Reply};
 use hv_emu::Emulator;
-use hv_handed::Handed;
+use hv_handed::{Handed, hand_nothing};
 use hv_kinds::Pins;
 use hv_queue::Queue;
 use hv_step::Pin;

@@ -10,11 +10,11 @@ ghost use Rattle.hv_step.specs.declared.step.Step.TheVariants as steps;
 ghost use Rattle.hv_text.specs.declared.limits.TheConstants.{VCPUS};
 ghost use Rattle.hv_trap.specs.Trap.{chosen};
 
-use crate::hands::{hand_nothing, hand_priority};
+use crate::hands::hand_priority;
 use crate::moves::{make_move, priority_of, runs_on, slice_of};
 use hv_answer::Reply;
 use hv_emu::Emulator;
-use hv_handed::Handed;
+use hv_handed::{Handed, hand_nothing};
 use hv_queue::Queue;
 use hv_step::{Dispatch, Idle, Leave, Preempt, Take};
 use hv_trap::choose;
