@@ -4,7 +4,9 @@
 mod carry;
 mod hands;
 mod pending;
+mod told;
 
 pub use carry::{Carry, Handed};
 pub use hands::{hand_nothing, hand_region};
 pub use pending::Pending;
+pub use told::{Made, Told};
