@@ -1,5 +1,5 @@
 -- What holds of each body.
-use Rattle.std.specs.Prelude.{◌≡◌, ℕ, ◌+◌, ◌≤◌, List, [], length, replicate, All, Option, Some, None}
+use Rattle.std.specs.Prelude.{◌≡◌, ℕ, ◌+◌, ◌^◌, ◌<◌, ◌≤◌, List, [], length, replicate, All, Option, Some, None}
 use Rattle.hv_region.specs.declared.plan.Form.{Form}
 use Rattle.hv_region.specs.declared.plan.Form.TheVariants.{Ram, Rom, Device, Real}
 use Rattle.hv_region.specs.declared.plan.RegionPlan.{RegionPlan}
@@ -7,6 +7,8 @@ use Rattle.hv_text.specs.declared.limits.TheConstants.{MOST_MEMORY}
 use Rattle.hv_body.specs.declared.contents.Contents.{Contents}
 use Rattle.hv_body.specs.declared.contents.Contents.TheVariants.{Writable, ReadOnly, Emulated, Shared}
 use Rattle.hv_body.specs.declared.live.Live.{Live}
+use Rattle.hv_body.specs.declared.place.Answer.{Answer}
+use Rattle.hv_body.specs.declared.place.Answer.TheVariants.{Answered, Denied, NoExec, InArea, NotHere}
 
 -- A plan is of a device.
 abbrev pub IsDevice : Form → Type 0
@@ -42,6 +44,14 @@ ReachesTo (Writable bytes) end = end ≤ length bytes
 ReachesTo (ReadOnly bytes) end = end ≤ length bytes
 ReachesTo (Emulated device) end = Unit {0}
 ReachesTo (Shared area offset) end = offset + end ≤ MOST_MEMORY
+
+-- What is answered to a fetch fits its bytes, and those of an area end within the most bytes of one.
+abbrev pub FitsAnswer : (size : ℕ) → Answer → Type 0
+FitsAnswer size (Answered value) = value < 256 ^ size
+FitsAnswer size (InArea area offset) = offset + size ≤ MOST_MEMORY
+FitsAnswer size Denied = Unit {0}
+FitsAnswer size NoExec = Unit {0}
+FitsAnswer size NotHere = Unit {0}
 
 -- Contents are memory that has bytes up to an end.
 abbrev pub IsMemory : {D : Type 0} → Contents D → (end : ℕ) → Type 0

@@ -1,6 +1,6 @@
 //! Areas of the host.
-ghost use Rattle.std.specs.Prelude.{◌≡◌, ◌+◌, ◌^◌, ◌<◌, ◌≤◌, length, replicate, IfOk};
-ghost use Rattle.hv_body.specs.Memory.{number_at, with_number};
+ghost use Rattle.std.specs.Prelude.{◌≡◌, ◌+◌, ◌^◌, ◌<◌, ◌≤◌, length, replicate, slice_get, IfOk};
+ghost use Rattle.hv_body.specs.Memory.{number_at, with_bytes, with_number};
 
 use crate::memory::Memory;
 use std::alloc::{AllocError, Global};
@@ -35,7 +35,8 @@ impl Area {
         requires some { 1 ≤ size }
         requires few { size ≤ 8 }
         requires within { offset + size ≤ length self.now }
-        ensures { result ≡ number_at self.now offset size }
+        ensures value { result ≡ number_at self.now offset size }
+        ensures fits { result < 256 ^ size }
     {
         self.memory.read(offset, size)
     }
@@ -49,5 +50,20 @@ impl Area {
         ensures { self.new ≡ with_number self.old offset size value }
     {
         self.memory.write(offset, size, value);
+    }
+
+    /// Puts bytes from an offset on.
+    pub fn store(&mut self, offset: u64, bytes: &[u8])
+        requires { offset + length bytes.now ≤ length self.old }
+        ensures { self.new ≡ with_bytes self.old offset bytes.now }
+    {
+        self.memory.store(offset, bytes);
+    }
+
+    /// The byte at an offset, or None behind the last.
+    pub fn byte(&self, offset: u64) -> Option<u8>
+        ensures { result ≡ slice_get self.now offset }
+    {
+        self.memory.byte(offset)
     }
 }

@@ -5,7 +5,7 @@ ghost use Rattle.hv_emu.specs.Device as devices;
 ghost use Rattle.hv_region.specs.Plans.{IsRegionPlan};
 ghost use Rattle.hv_text.specs.declared.limits.TheConstants.{GUEST_REGIONS};
 ghost use Rattle.hv_body.specs.Body.{seen, own_window, filled, fetch_answer, load_answer, load_leaves, store_answer, store_leaves, with_window, without_window, with_stored, byte_of, device_of, on_device, no_pins, shown};
-ghost use Rattle.hv_body.specs.Rules.{CanMake, FitsArea, HasMemory, IsBody};
+ghost use Rattle.hv_body.specs.Rules.{CanMake, FitsAnswer, FitsArea, HasMemory, IsBody};
 
 use crate::contents::Contents;
 use crate::live::Live;
@@ -57,7 +57,8 @@ impl<E: Emulator> BodyOf<E> {
     pub fn fetch(&self, place: Place) -> Answer
         requires some { 1 ≤ place.size }
         requires few { place.size ≤ 8 }
-        ensures { result ≡ fetch_answer self.now place }
+        ensures value { result ≡ fetch_answer self.now place }
+        ensures fits { FitsAnswer place.size result }
     {
         match &self.live {
             Some(live) => live.fetch(place),

@@ -3,7 +3,7 @@ ghost use Rattle.std.specs.Prelude.{◌≡◌, ◌+◌, ◌^◌, ◌<◌, ◌≤
 ghost use Rattle.std.specs.Option.{option_copied, option_map};
 ghost use Rattle.hv_emu.specs.Device.{after_attach};
 ghost use Rattle.hv_body.specs.Contents.{map_device, new_contents, fetched, loaded, after_load, stored, after_store, put_into, byte_at, device_in};
-ghost use Rattle.hv_body.specs.Rules.{ReachesTo, IsMemory, CanMake, zeros_for};
+ghost use Rattle.hv_body.specs.Rules.{ReachesTo, IsMemory, FitsAnswer, CanMake, zeros_for};
 
 use crate::memory::Memory;
 use crate::place::Answer;
@@ -53,7 +53,8 @@ impl<E: Emulator> Contents<E> {
         requires some { 1 ≤ size }
         requires few { size ≤ 8 }
         requires within { ReachesTo self.now (offset + size) }
-        ensures { result ≡ fetched self.now offset size }
+        ensures value { result ≡ fetched self.now offset size }
+        ensures fits { FitsAnswer size result }
     {
         match self {
             Contents::Writable(memory) => Answer::Answered(memory.read(offset, size)),

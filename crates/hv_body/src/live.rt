@@ -2,7 +2,7 @@
 ghost use Rattle.std.specs.Prelude.{◌≡◌, ◌+◌, ◌^◌, ◌<◌, ◌≤◌, Some, IfSome};
 ghost use Rattle.hv_body.specs.Windows.{offset_of};
 ghost use Rattle.hv_body.specs.Body.{seen, fetch_answer, load_answer, load_leaves, store_answer, store_leaves, with_window, without_window};
-ghost use Rattle.hv_body.specs.Rules.{IsLive, ReachesTo};
+ghost use Rattle.hv_body.specs.Rules.{FitsAnswer, IsLive, ReachesTo};
 
 use crate::contents::Contents;
 use crate::place::{Answer, Place};
@@ -41,7 +41,8 @@ impl<E: Emulator> Live<E> {
         requires rules { IsLive self.now }
         requires some { 1 ≤ place.size }
         requires few { place.size ≤ 8 }
-        ensures { result ≡ fetch_answer (Some self.now) place }
+        ensures value { result ≡ fetch_answer (Some self.now) place }
+        ensures fits { FitsAnswer place.size result }
     {
         match self.offset_of(place) {
             Some(offset) => self.contents.fetch(offset, place.size),

@@ -1,5 +1,6 @@
 //! Memory.
 ghost use Rattle.std.specs.Prelude.{◌≡◌, ◌+◌, ◌^◌, ◌<◌, ◌≤◌, [], length, replicate, slice_get, IfOk};
+ghost use Rattle.byteorder.specs.Endian.{little_number};
 ghost use Rattle.hv_body.specs.Memory.{number_at, with_bytes, with_number};
 
 use byteorder::{ByteOrder, LittleEndian};
@@ -44,9 +45,10 @@ impl Memory {
         requires some { 1 ≤ size }
         requires few { size ≤ 8 }
         requires within { offset + size ≤ length self.now }
-        ensures { result ≡ number_at self.now offset size }
+        ensures value { result ≡ number_at self.now offset size }
+        ensures fits { result < 256 ^ size }
     {
-        LittleEndian::read_uint(&self.bytes[offset as usize..], size as usize)
+        number_of(&self.bytes[offset as usize..], size)
     }
 
     /// Writes a number from an offset on.
@@ -75,4 +77,15 @@ impl Memory {
     {
         self.bytes.get(offset as usize).copied()
     }
+}
+
+// The number in the first bytes, the lowest one first.
+fn number_of(bytes: &[u8], size: u8) -> u64
+    requires some { 1 ≤ size }
+    requires few { size ≤ 8 }
+    requires within { size ≤ length bytes.now }
+    ensures value { result ≡ little_number size bytes.now }
+    ensures fits { result < 256 ^ size }
+{
+    LittleEndian::read_uint(bytes, size as usize)
 }

@@ -243,5 +243,8 @@ fn shares_an_area(rt: HostRuntime) -> Result<(), Fail> {
     area.write(0x14, 2, 0x4241);
     assert!(rt; area.read(0x14, 1) == 0x41);
     assert!(rt; area.read(0x15, 1) == 0x42);
+    area.store(0x1e, b"yz");
+    assert!(rt; area.byte(0x1f) == Some(0x7a));
+    assert!(rt; area.byte(0x20) == None);
     Ok(())
 }
