@@ -1,6 +1,6 @@
 //! A queue.
-ghost use Rattle.std.specs.Prelude.{◌≡◌, ◌<◌, [], length, IfOk};
-ghost use Rattle.hv_queue.specs.Queue.{IsQueue, appended, head_of, last_of, front_of, without, without_head, pair_of};
+ghost use Rattle.std.specs.Prelude.{◌≡◌, ◌<◌, [], length, IfOk, IfSome};
+ghost use Rattle.hv_queue.specs.Queue.{IsQueue, IsEntry, appended, head_of, last_of, front_of, without, without_head, pair_of};
 ghost use Rattle.hv_queue.specs.Search.{later};
 
 use crate::entry::QueueEntry;
@@ -84,6 +84,14 @@ impl Queue {
     {
         let last = self.entries.pop()?;
         Some((last.vcpu, last.priority))
+    }
+
+    /// The entry that came last, or None where none stands in it.
+    pub fn last(&self) -> Option<QueueEntry>
+        ensures last { result ≡ last_of self.now }
+        ensures rules { IfSome result IsEntry }
+    {
+        self.entries.last().copied()
     }
 
     /// Takes a VCPU out, if it stands in it.

@@ -12,6 +12,7 @@ fn takes_the_first_of_the_greatest_priority(rt: HostRuntime) -> Result<(), Fail>
     queue.push(2, 5);
     queue.push(3, 5);
     assert!(rt; queue.head() == Some(2));
+    assert!(rt; queue.last().map(|entry| entry.vcpu) == Some(3));
     assert!(rt; queue.pop_last() == Some((3, 5)));
     queue.remove(2);
     assert!(rt; queue.pop_head() == Some(1));
