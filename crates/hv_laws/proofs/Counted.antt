@@ -14,6 +14,10 @@ use Rattle.hv_laws.proofs.Worths.{worth, worth-none}
 abbrev pub Counted : ℕ → Board → ℕ → Type 0
 Counted count b v = (f : ℕ → ℕ) → standing_of count b (valued v f) ≡ worth f (b.vcpus v)
 
+pub one-small : (b : Bool) → one_if b ≤ 1
+one-small true = omega arith
+one-small false = omega arith
+
 module _ (count : ℕ) (before after : Board) (v : ℕ) where
   abbrev old : (ℕ → ℕ) → ℕ → ℕ
   old f g = weigh (valued v f) (before.queues g)
@@ -39,10 +43,6 @@ module _ (count : ℕ) (before after : Board) (v : ℕ) where
   -- one that is ready no more leaves all queues
   pub leaves : ((f : ℕ → ℕ) (g : ℕ) → g < count → new f g ≡ 0) → ((f : ℕ → ℕ) → worth f (after.vcpus v) ≡ 0) → Counted count after v
   leaves queues vcpu f = sum-none count (new f) (queues f) ∙ sym (vcpu f)
-
-  one-small : (b : Bool) → one_if b ≤ 1
-  one-small true = omega arith
-  one-small false = omega arith
 
   -- or the one queue in which it stands
   pub departs : (k : ℕ) → k < count → ((g : ℕ) → (g == k) ≡ false → after.queues g ≡ before.queues g) → after.queues k ≡ without v (before.queues k)

@@ -1,5 +1,5 @@
 -- A VCPU is counted in the queues by what it is worth: each step keeps it.
-use Rattle.std.proofs.Common.{◌≡◌, ℕ, ◌<◌, ◌≤◌, ◌%◌, Bool, true, false, ◌==◌, if◌then◌else◌, List, [], ◌∷◌, ◌++◌, length, refl, ap, sym, ◌∙◌, subst, arith, eq-eqb}
+use Rattle.std.proofs.Common.{◌≡◌, ℕ, ◌+◌, ◌<◌, ◌≤◌, ◌%◌, Bool, true, false, ◌==◌, if◌then◌else◌, List, [], ◌∷◌, ◌++◌, length, refl, ap, sym, ◌∙◌, subst, arith, eq-eqb}
 use Rattle.std.specs.Prelude.{Option, None, Some, Result, Ok, Err, is_ok, nat_le}
 use Rattle.std.specs.List.{list_any, range_with_len}
 use Rattle.std.proofs.Math.Nat.{mod-lt}
@@ -8,9 +8,8 @@ use Rattle.hv_answer.specs.declared.reply.Reply.TheVariants as reply
 use Rattle.hv_event.specs.declared.event.ActorId.{ActorId}
 use Rattle.hv_event.specs.declared.event.ActorId.TheVariants.{Hart, Terminal}
 use Rattle.hv_kinds.specs.declared.state.State.{State}
-use Rattle.hv_queue.specs.Queue.{weigh, without, last_of, front_of}
+use Rattle.hv_queue.specs.Queue.{weigh, count_in, without, appended, last_of, front_of}
 use Rattle.hv_queue.specs.declared.entry.QueueEntry.{QueueEntry}
-use Rattle.hv_queue.proofs.Weights.{weigh-append}
 use Rattle.hv_refusal.specs.declared.refusal.Refusal.{Refusal}
 use Rattle.hv_rules.specs.Balance.{longest, shortest, is_uneven}
 use Rattle.hv_rules.specs.Carry.{Carry}
@@ -39,16 +38,16 @@ use Rattle.hv_vcpu.specs.declared.moves.Move.{Move}
 use Rattle.hv_vcpu.specs.declared.moves.Move.TheVariants as move
 use Rattle.hv_vcpu.specs.declared.moves.WrongState.{WrongState}
 use Rattle.hv_laws.specs.Board.{Board, Made, Changes, IsStep, is_vcpu, is_hart}
-use Rattle.hv_laws.specs.Laws.{standing_of, current_of}
+use Rattle.hv_laws.specs.Laws.{sum_below, standing_of, current_of, is_ready}
 use Rattle.hv_laws.proofs.Beyond.{is_at_own, empty-kept, idle-kept, own-there}
-use Rattle.hv_laws.proofs.Counted.{Counted, quiet, arrives-if, leaves-if, departs-if}
+use Rattle.hv_laws.proofs.Counted.{Counted, quiet, one-small, arrives-if, leaves-if, departs-if}
 use Rattle.hv_laws.proofs.Current.{Currents, currents-kept, hart-step}
 use Rattle.hv_laws.proofs.Frame.{touched, or-false, or-true, at-same, false-true}
 use Rattle.hv_laws.proofs.Rows.{Asks, asked, harts-same}
 use Rattle.hv_laws.proofs.States.{take-same, access-same}
 use Rattle.hv_laws.proofs.Steps.{queue-step, queue-touched, queue-untouched, vcpu-step, vcpu-touched, vcpu-untouched, past-dir-if, past-queues, queue-among}
-use Rattle.hv_laws.proofs.Sums.{sum-same, sum-two, place-below, uneven-apart, apart-back}
-use Rattle.hv_laws.proofs.Weights.{valued, weigh-other, weigh-arrived-other, head-stands, weigh-front}
+use Rattle.hv_laws.proofs.Sums.{sum-same, sum-two, sum-pair, place-below, uneven-apart, apart-back}
+use Rattle.hv_laws.proofs.Weights.{valued, weigh-other, weigh-arrived-other, weigh-appended, head-stands, weigh-front}
 use Rattle.hv_laws.proofs.Worths.{worth, worth-same, running-not-ready, is_arrival, arrival-worth, arrival-not-ready, is_departure, departure-worth, preempts, added-worth, wakes-not-ready, woken-worth, fetch-worth}
 
 -- the VCPU whose entry a step puts into a queue or takes out of it
@@ -369,7 +368,10 @@ says-moved false true q m e is moved says = absurd (cc)
 
 module _ (count : ℕ) (positive : 0 < count) (before after : Board) (by : ActorId) (s : Balance) (r : Reply) (c : Carry)
     (changes : Changes (components count by (step.Balance s) r c) before after (made count positive before after by (step.Balance s) r c))
-    (long : length c.lengths ≡ count) (w : QueueEntry → ℕ) where
+    (long : length c.lengths ≡ count) (v : ℕ) (was : Counted count before v) (f : ℕ → ℕ) where
+  abbrev w : QueueEntry → ℕ
+  w = valued v f
+
   abbrev a : ℕ
   a = longest c.lengths
 
@@ -397,12 +399,25 @@ module _ (count : ℕ) (positive : 0 < count) (before after : Board) (by : Actor
   gives is_shortest is_longest m e q is moved = rw (moved, is) refl
 
   takes : (is_longest is_shortest : Bool) (m : Option QueueEntry) (e : QueueEntry) (q : List QueueEntry) → is_longest ≡ false → is_shortest ≡ true → m ≡ Some e
-      → balanced is_longest is_shortest m q ≡ q ++ e ∷ []
+      → balanced is_longest is_shortest m q ≡ appended e q
   takes is_longest is_shortest m e q other is moved = rw (moved, other, is) refl
 
   stays : (is_longest is_shortest : Bool) (m : Option QueueEntry) (q : List QueueEntry) → is_longest ≡ false → is_shortest ≡ false → balanced is_longest is_shortest m q ≡ q
   stays is_longest is_shortest None q x y = refl
   stays is_longest is_shortest (Some e) q x y = rw (x, y) refl
+
+  -- a VCPU whose entry the longest queue gives stands in no other
+  none-elsewhere : (e : QueueEntry) → a < count → b < count → (a == b) ≡ false → last_of (before.queues a) ≡ Some e → (v == e.vcpu) ≡ true → count_in v (before.queues b) ≡ 0
+  none-elsewhere e la lb apart last own =
+      let one : ℕ → ℕ = λ p. 1 in
+      let old : ℕ → ℕ = λ g. weigh (valued v one) (before.queues g) in
+      let total : sum_below count old ≡ worth one (before.vcpus v) = was one in
+      let small = one-small (is_ready (before.vcpus v).state) in
+      let front = weigh-front (valued v one) (before.queues a) e last in
+      let here : valued v one e ≡ 1 = ap (λ t. if t then 1 else 0) own in
+      let pair : old a + old b ≤ sum_below count old = sum-pair count a b old la lb apart in
+      let none : old b ≡ 0 = omega arith in
+      none
 
   some-moved : (e : QueueEntry) → c.moved ≡ Some e → Same
   some-moved e moved =
@@ -413,13 +428,13 @@ module _ (count : ℕ) (positive : 0 < count) (before after : Board) (by : Actor
       let at-shortest = balanced-queue b lb in
       let says = says-moved (a == a) (is_uneven c.lengths) (before.queues a) c.moved e (eq-eqb a a refl) moved at-longest.0.1 in
       let apart = uneven-apart c.lengths says.0 in
-      let f = λ (g : ℕ). weigh w (before.queues g) in
-      let f' = λ (g : ℕ). weigh w (after.queues g) in
-      let at-a : f' a ≡ weigh w (front_of (before.queues a)) = ap (weigh w) (at-longest.1 ∙ gives (a == b) (a == a) c.moved e (before.queues a) (eq-eqb a a refl) moved) in
-      let at-b : f' b ≡ weigh w (before.queues b ++ e ∷ []) = ap (weigh w) (at-shortest.1 ∙ takes (b == a) (b == b) c.moved e (before.queues b) (apart-back a b apart) (eq-eqb b b refl) moved) in
+      let old = λ (g : ℕ). weigh w (before.queues g) in
+      let new = λ (g : ℕ). weigh w (after.queues g) in
+      let at-a : new a ≡ weigh w (front_of (before.queues a)) = ap (weigh w) (at-longest.1 ∙ gives (a == b) (a == a) c.moved e (before.queues a) (eq-eqb a a refl) moved) in
+      let at-b : new b ≡ weigh w (appended e (before.queues b)) = ap (weigh w) (at-shortest.1 ∙ takes (b == a) (b == b) c.moved e (before.queues b) (apart-back a b apart) (eq-eqb b b refl) moved) in
       let front = weigh-front w (before.queues a) e says.1 in
-      let back = weigh-append w (before.queues b) e in
-      let sums = sum-two count a b f f' la lb apart (λ g na nb.
+      let back = weigh-appended v f e (before.queues b) (none-elsewhere e la lb apart says.1) in
+      let sums = sum-two count a b old new la lb apart (λ g na nb.
       queue-step touched_by before after event changes g (λ q. weigh w q ≡ weigh w (before.queues g))
       (λ t ok. ap (weigh w) (stays (g == a) (g == b) c.moved (before.queues g) na nb)) (λ t. refl)) in
       omega arith
@@ -434,7 +449,7 @@ module _ (count : ℕ) (positive : 0 < count) (before after : Board) where
 
   balance-kept : (by : ActorId) (s : Balance) (r : Reply) (c : Carry) → ((h : ℕ) → by ≡ Hart h → length c.lengths ≡ count) → Keeps by (step.Balance s) r c
   balance-kept (Hart h) s r c long changes v was f =
-      standing-same count positive before after (Hart h) s r c changes (long h refl) (valued v f)
+      standing-same count positive before after (Hart h) s r c changes (long h refl) v was f
       ∙ was f
       ∙ sym (vcpu-step (components count (Hart h) (step.Balance s) r c) before after (made count positive before after (Hart h) (step.Balance s) r c) changes v (λ x. worth f x ≡ worth f (before.vcpus v)) (λ t ok. refl) (λ t. refl))
   balance-kept (Terminal t) s r c long changes v was f =

@@ -1,5 +1,5 @@
 -- Numbers for each of the first ones, added up.
-use Rattle.std.proofs.Common.{◌≡◌, ℕ, zero, suc, ◌+◌, ◌<◌, ◌≤◌, Bool, true, false, ◌==◌, if◌then◌else◌, List, [], ◌∷◌, length, get_or, refl, ap, arith, eqb-true, eq-eqb, leb-true}
+use Rattle.std.proofs.Common.{◌≡◌, ℕ, zero, suc, ◌+◌, ◌<◌, ◌≤◌, Bool, true, false, ◌==◌, if◌then◌else◌, List, [], ◌∷◌, length, get_or, refl, ap, ◌∙◌, arith, eqb-true, eq-eqb, leb-true}
 use Rattle.std.specs.List.{list_all}
 use Rattle.hv_rules.specs.Balance.{first_place, longest, shortest, is_uneven}
 use Rattle.hv_laws.specs.Laws.{sum_below}
@@ -64,6 +64,17 @@ sum-two n a b f f' la lb apart h =
     let then' = sum-one n b mid f' lb (λ k other.
     let Goal : Bool → Type 0 = λ t. (k == a) ≡ t → f' k ≡ (if t then f' a else f k) in
     elim (k == a) as Goal [ true ↦ λ is. ap f' (eqb-true k a is) | false ↦ λ is. h k is other ] refl) in
+    omega arith
+
+-- two of the numbers are a part of all
+pub sum-pair : (n a b : ℕ) (f : ℕ → ℕ) → a < n → b < n → (a == b) ≡ false → f a + f b ≤ sum_below n f
+sum-pair n a b f la lb apart =
+    let rest = λ (k : ℕ). if k == a then 0 else (if k == b then 0 else f k) in
+    let none-a : rest a ≡ 0 = ap (λ t. if t then 0 else (if a == b then 0 else f a)) (eq-eqb a a refl) in
+    let none-b : rest b ≡ 0 =
+    ap (λ t. if t then 0 else (if b == b then 0 else f b)) (apart-back a b apart) ∙ ap (λ t. if t then 0 else f b) (eq-eqb b b refl) in
+    let sums = sum-two n a b f rest la lb apart (λ k not-a not-b.
+    ap (λ t. if t then 0 else (if k == b then 0 else f k)) not-a ∙ ap (λ t. if t then 0 else f k) not-b) in
     omega arith
 
 -- the place that is first in an order is one of the list's

@@ -1,7 +1,7 @@
 -- What the entries of a VCPU weigh in a queue, each by its priority, once an entry comes or goes.
 use Rattle.std.proofs.Common.{◌≡◌, ℕ, ◌+◌, ◌<◌, Bool, true, false, ◌==◌, if◌then◌else◌, List, [], ◌∷◌, refl, ap, sym, subst, ◌∙◌, arith, eqb-true, eq-eqb}
 use Rattle.std.specs.Prelude.{nat_lt, Option, None, Some}
-use Rattle.hv_queue.specs.Queue.{weigh, count_in, without, better, best_of, vcpu_of, head_of, last_of, front_of}
+use Rattle.hv_queue.specs.Queue.{weigh, count_in, without, appended, better, best_of, vcpu_of, head_of, last_of, front_of}
 use Rattle.hv_queue.specs.declared.entry.QueueEntry.{QueueEntry}
 use Rattle.hv_queue.proofs.Weights.{weigh-append}
 use Rattle.hv_rules.specs.Queue.{arrived}
@@ -61,6 +61,18 @@ module _ (v : ℕ) (f : ℕ → ℕ) where
   weigh-none (e ∷ es) none =
       let rest = weigh-none es (omega arith) in
       let here = nothing (v == e.vcpu) (f e.priority) (omega arith) in
+      omega arith
+
+  -- an entry at the end adds its own weight, where its VCPU has none
+  pub weigh-appended : (e : QueueEntry) (q : List QueueEntry) → ((v == e.vcpu) ≡ true → count_in v q ≡ 0) → weigh (valued v f) (appended e q) ≡ weigh (valued v f) q + valued v f e
+  weigh-appended e q none =
+      let more = weigh-append (valued v f) (without e.vcpu q) e in
+      let Goal : Bool → Type 0 = λ b. (v == e.vcpu) ≡ b → weigh (valued v f) (without e.vcpu q) ≡ weigh (valued v f) q in
+      let same : weigh (valued v f) (without e.vcpu q) ≡ weigh (valued v f) q =
+      elim (v == e.vcpu) as Goal [
+        | true ↦ λ is. ap (λ n. weigh (valued v f) (without n q)) (sym (eqb-true v e.vcpu is)) ∙ (weigh-gone q ∙ sym (weigh-none q (none is)))
+        | false ↦ λ is. weigh-other e.vcpu q is
+      ] refl in
       omega arith
 
 -- the best entry of a queue stands in it

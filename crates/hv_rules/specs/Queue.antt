@@ -1,5 +1,5 @@
 -- The component of a hart's queue: to which events it agrees, and what an event leaves in it.
-use Rattle.std.specs.Prelude.{◌≡◌, ℕ, ◌==◌, get_or, length, Bool, true, false, if◌then◌else◌, Option, None, Some, Ok, List, ◌++◌, ◌∷◌, []}
+use Rattle.std.specs.Prelude.{◌≡◌, ℕ, ◌==◌, get_or, length, Bool, true, false, if◌then◌else◌, Option, None, Some, Ok, List}
 use Rattle.hv_answer.specs.declared.reply.Reply.{Reply}
 use Rattle.hv_answer.specs.declared.reply.Reply.TheVariants as reply
 use Rattle.hv_queue.specs.Queue.{appended, without, head_of, last_of, front_of}
@@ -43,7 +43,7 @@ arrived vcpu (Some priority) queue = appended (record { vcpu = vcpu; priority = 
 abbrev pub balanced : (is_longest is_shortest : Bool) → Option QueueEntry → List QueueEntry → List QueueEntry
 balanced is_longest is_shortest None queue = queue
 balanced true is_shortest (Some entry) queue = front_of queue
-balanced false true (Some entry) queue = queue ++ entry ∷ []
+balanced false true (Some entry) queue = appended entry queue
 balanced false false (Some entry) queue = queue
 
 -- A refused step leaves the queue, and so does a pin that wakes no VCPU.
