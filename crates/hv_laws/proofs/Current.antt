@@ -24,7 +24,8 @@ use Rattle.hv_vcpu.specs.declared.moves.Move.TheVariants as move
 use Rattle.hv_laws.specs.Board.{Board, Made, IsStep, is_vcpu, is_hart}
 use Rattle.hv_laws.specs.Laws.{current_of}
 use Rattle.hv_laws.proofs.Frame.{after-step, or-false, or-true, true-false}
-use Rattle.hv_laws.proofs.Rows.{is_signal, Asks, asked, current-same, fetched-same, used-same, signals-kept}
+use Rattle.hv_rules.proofs.Slices.{is_signal}
+use Rattle.hv_laws.proofs.Rows.{Asks, asked, current-same, fetched-same, used-same, signals-kept}
 use Rattle.hv_laws.proofs.Steps.{vcpu-step, vcpu-touched}
 use Rattle.hv_laws.proofs.States.{runs-there, move-running, preempt-stops, dispatch-running, added-running, woken-running, fetched-running, waiting-stops, take-same, access-same}
 

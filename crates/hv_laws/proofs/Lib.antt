@@ -9,7 +9,6 @@ pub mod Worths
 pub mod Counted
 pub mod Beyond
 pub mod Ready
-pub mod Slices
 pub mod Runs
 pub mod Queued
 pub mod Example

@@ -12,17 +12,12 @@ use Rattle.hv_kinds.specs.declared.changes.SignalChanges.{SignalChanges}
 use Rattle.hv_kinds.specs.declared.generation.Generation.{Generation}
 use Rattle.hv_rules.specs.Carry.{Carry, Pending}
 use Rattle.hv_rules.specs.Hart.{HartState, Current, Row, owes, waits, ends, ticks, free, runs, waits_for, with_current, turn_row, pending_row, owed_row, row_of, FitsPending, FitsRun, FitsCurrent, Fits, HartAgrees, hart_after, used_up, faulted, fetched, ticked_signals, without_first}
+use Rattle.hv_rules.proofs.Slices.{is_signal, first-signal}
 use Rattle.hv_rules.specs.Owed.{samples, has_changed, pin_step, pin_steps, owed_for}
 use Rattle.hv_step.specs.declared.step.Step.{Step}
 use Rattle.hv_step.specs.declared.step.Step.TheVariants as step
 use Rattle.hv_text.specs.declared.limits.TheConstants.{SLOTS, GUEST_VCPUS}
 use Rattle.hv_laws.specs.Laws.{current_of}
-
--- the steps that harts owe
-abbrev pub is_signal : Step → Bool
-is_signal (step.Sample s) = true
-is_signal (step.Pin s) = true
-is_signal _ = false
 
 -- what a row says of the VCPU that its hart runs
 abbrev Matches : Row → Option ℕ → Type 0
@@ -55,10 +50,6 @@ turn-matches n hart (suc left) =
 pending-matches : (n : ℕ) (hart : HartState) (pending : Option (Pending × Generation)) → Matches (pending_row n hart pending) (current_of hart)
 pending-matches n hart None = turn-matches n hart hart.left
 pending-matches n hart (Some pending) = waits-matches hart.current pending.0 pending.1
-
-pub first-signal : (a b : Bool) → (a && b) ≡ true → a ≡ true
-first-signal true b is = refl
-first-signal false b is = absurd (cc)
 
 owed-matches : (n : ℕ) (hart : HartState) (owed : List Step) → list_all is_signal owed ≡ true → Matches (owed_row n hart owed) (current_of hart)
 owed-matches n hart [] signals = pending-matches n hart hart.pending

@@ -20,13 +20,12 @@ use Rattle.hv_vcpu.specs.Vcpu.{VcpuValue}
 use Rattle.hv_vcpu.specs.declared.moves.Move.TheVariants as move
 use Rattle.hv_laws.specs.Board.{Board, Made, IsStep, is_vcpu}
 use Rattle.hv_laws.specs.Run.{IsStart, IsRun, IsReached}
-use Rattle.hv_laws.specs.Laws.{IsWithinItsSlice, HartsAreWithinTheirSlices, current_of, vcpu_run, StepsAreOfTheCurrent, is_ready, one_if, RunningIsCurrent, RunsApart, DispatchIsNotRefused}
+use Rattle.hv_laws.specs.Laws.{HartsAreWithinTheirSlices, current_of, vcpu_run, StepsAreOfTheCurrent, is_ready, one_if, RunningIsCurrent, RunsApart, DispatchIsNotRefused}
 use Rattle.hv_laws.proofs.Current.{Currents, currents-kept, hart-step, some-same}
 use Rattle.hv_laws.proofs.Frame.{or-true}
 use Rattle.hv_laws.proofs.Ready.{Ordered, ordered-kept, there}
-use Rattle.hv_laws.proofs.Rows.{is_signal}
-use Rattle.hv_laws.proofs.Slices.{within-kept}
-use Rattle.hv_rules.specs.Hart.{Current}
+use Rattle.hv_rules.proofs.Slices.{is_signal, within-kept}
+use Rattle.hv_rules.specs.Hart.{Current, IsWithinItsSlice}
 use Rattle.hv_laws.proofs.States.{runs-here, running-same}
 use Rattle.hv_laws.proofs.Steps.{queue-touched, vcpu-touched, past-queues}
 use Rattle.hv_laws.proofs.Sums.{sum-none, sum-part}

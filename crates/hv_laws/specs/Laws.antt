@@ -7,7 +7,7 @@ use Rattle.hv_kinds.specs.declared.state.State.{State}
 use Rattle.hv_kinds.specs.declared.state.State.TheVariants.{Ready, Running}
 use Rattle.hv_queue.specs.Queue.{weigh, of_vcpu, count_in}
 use Rattle.hv_queue.specs.declared.entry.QueueEntry.{QueueEntry}
-use Rattle.hv_rules.specs.Hart.{HartState, Current}
+use Rattle.hv_rules.specs.Hart.{HartState, IsWithinItsSlice}
 use Rattle.hv_step.specs.declared.step.Step.{Step}
 use Rattle.hv_step.specs.declared.step.Step.TheVariants as step
 use Rattle.hv_laws.specs.Board.{Board, Made, IsStep}
@@ -108,10 +108,6 @@ DispatchIsNotRefused =
     → made.reply ≡ reply.Dispatch (Ok (board.vcpus vcpu).plan.slice)
 
 -- A hart has a pending access only with a VCPU, and that used no more turns than its slice has.
-pub record IsWithinItsSlice (hart : HartState) : Type 0 where
-  pub pending : hart.current ≡ None → hart.pending ≡ None
-  pub used : (current : Current) → hart.current ≡ Some current → current.used ≤ current.slice
-
 abbrev pub HartsAreWithinTheirSlices : Type 0
 HartsAreWithinTheirSlices =
     (count : ℕ) (board : Board) → IsReached count board → (h : ℕ) → IsWithinItsSlice (board.harts h)

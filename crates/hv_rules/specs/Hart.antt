@@ -1,5 +1,5 @@
 -- A hart's program: what it keeps, which step comes next, and what an event leaves in it.
-use Rattle.std.specs.Prelude.{◌≡◌, ℕ, zero, suc, ◌+◌, ◌-◌, ◌/◌, ◌%◌, ◌==◌, ◌&&◌, not, Bool, true, false, if◌then◌else◌, Option, None, Some, Ok, List, [], ◌∷◌, ◌++◌, length}
+use Rattle.std.specs.Prelude.{◌≡◌, ℕ, zero, suc, ◌+◌, ◌-◌, ◌/◌, ◌%◌, ◌≤◌, ◌==◌, ◌&&◌, not, Bool, true, false, if◌then◌else◌, Option, None, Some, Ok, List, [], ◌∷◌, ◌++◌, length}
 use Rattle.hv_answer.specs.declared.reply.Outcome.{Outcome}
 use Rattle.hv_answer.specs.declared.reply.Outcome.TheVariants as outcome
 use Rattle.hv_answer.specs.declared.reply.Reply.{Reply}
@@ -236,3 +236,8 @@ hart_after hart (step.Access s) (reply.Access (Some accessed)) c =
     with_owed (turned (without_pending hart)) (owed_for s.generation s.row c.parent accessed.changes)
 hart_after hart (step.Fault s) r c = faulted hart s.access
 hart_after hart _ r c = hart
+
+-- A hart has a pending access only with a VCPU, and that used no more turns than its slice has.
+pub record IsWithinItsSlice (hart : HartState) : Type 0 where
+  pub pending : hart.current ≡ None → hart.pending ≡ None
+  pub used : (current : Current) → hart.current ≡ Some current → current.used ≤ current.slice

@@ -27,7 +27,7 @@ use Rattle.hv_step.specs.declared.step.Step.{Step}
 use Rattle.hv_step.specs.declared.step.Step.TheVariants as step
 use Rattle.hv_trap.specs.Csr.{mstatus_of}
 use Rattle.hv_trap.specs.Trap.{chosen}
-use Rattle.hv_vcpu.specs.Instruction.{carried_out}
+use Rattle.hv_vcpu.specs.Instruction.{IsAccess, carried_out}
 use Rattle.hv_vcpu.specs.Table.{led}
 use Rattle.hv_vcpu.specs.Vcpu.{VcpuValue, birth_of, stepped, after_fetch, after_trap, loaded, stored, with_pins, woken, wakes}
 use Rattle.hv_vcpu.specs.declared.moves.Move.TheVariants as move
@@ -72,6 +72,11 @@ abbrev pub pending_of : After → Option Pending
 pending_of (after.Load address size is_signed register) = Some (load address size is_signed register)
 pending_of (after.Store address size value) = Some (store address size value)
 pending_of _ = None
+
+-- A pending access is one that an instruction can leave.
+abbrev pub IsPending : Pending → Type 0
+IsPending (load address size is_signed register) = IsAccess (after.Load address size is_signed register)
+IsPending (store address size value) = IsAccess (after.Store address size value)
 
 -- The cause of an access that no window holds or that is denied.
 abbrev pub fault_cause : AccessKind → ℕ

@@ -10,14 +10,24 @@ use Rattle.hv_kinds.specs.declared.access.AccessKind.{AccessKind}
 use Rattle.hv_kinds.specs.declared.access.AccessKind.TheVariants as access
 use Rattle.hv_kinds.specs.declared.generation.Generation.{Generation}
 use Rattle.hv_rules.specs.Carry.{Carry, Pending, load, store}
-use Rattle.hv_rules.specs.Hart.{HartState, Current, Row, owes, waits, ends, ticks, free, runs, waits_for, with_current, turn_row, pending_row, owed_row, row_of, FitsPending, FitsFree, FitsCurrent, Fits, HartAgrees, hart_after, used_up, faulted, fetched, IsPendingFault}
+use Rattle.hv_rules.specs.Hart.{HartState, Current, Row, owes, waits, ends, ticks, free, runs, waits_for, with_current, turn_row, pending_row, owed_row, row_of, FitsPending, FitsFree, FitsCurrent, Fits, HartAgrees, hart_after, used_up, faulted, fetched, IsPendingFault, IsWithinItsSlice}
 use Rattle.hv_step.specs.declared.step.Fault.{Fault}
 use Rattle.hv_step.specs.declared.step.Step.{Step}
 use Rattle.hv_step.specs.declared.step.Step.TheVariants as step
 use Rattle.hv_text.specs.declared.limits.TheConstants.{SLOTS}
-use Rattle.hv_laws.specs.Laws.{IsWithinItsSlice}
-use Rattle.hv_laws.proofs.Frame.{true-false}
-use Rattle.hv_laws.proofs.Rows.{is_signal, first-signal}
+
+-- the steps that harts owe
+abbrev pub is_signal : Step → Bool
+is_signal (step.Sample s) = true
+is_signal (step.Pin s) = true
+is_signal _ = false
+
+pub first-signal : (a b : Bool) → (a && b) ≡ true → a ≡ true
+first-signal true b is = refl
+first-signal false b is = absurd (cc)
+
+true-false : (b : Bool) → b ≡ true → b ≡ false → ⊥
+true-false b p q = cc
 
 -- the steps that use the slice
 abbrev is_execute : AccessKind → Bool
