@@ -1,2 +1,1 @@
-pub mod BalanceLemmas
 pub mod PlaceLemmas

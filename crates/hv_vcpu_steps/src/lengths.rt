@@ -8,7 +8,7 @@ use hv_answer::{Moved, Reply};
 use hv_queue::QueueEntry;
 
 // The place of the longest queue, the first of its length.
-fn longest(lengths: &[u64]) -> usize
+pub(crate) fn longest(lengths: &[u64]) -> usize
     requires { 0 < length lengths.now }
     ensures place { result ≡ longest lengths.now }
     ensures range { result < length lengths.now }
@@ -23,7 +23,7 @@ fn longest(lengths: &[u64]) -> usize
 }
 
 // The place of the shortest queue, the first of its length.
-fn shortest(lengths: &[u64]) -> usize
+pub(crate) fn shortest(lengths: &[u64]) -> usize
     requires { 0 < length lengths.now }
     ensures place { result ≡ shortest lengths.now }
     ensures range { result < length lengths.now }

@@ -19,7 +19,7 @@ mod turns;
 
 pub use additions::vadd;
 pub use arrivals::{kick, resume};
-pub use balancing::{give_last, measure};
+pub use balancing::{balance, balance_queue, measure};
 pub use departures::{halt, leave_queue, pause, reset, vdrop};
 pub use hands::hand_balance;
 pub use instructions::{Executed, access, fault, fetch, fetches_at, is_run_of};

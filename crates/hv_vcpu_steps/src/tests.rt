@@ -183,25 +183,31 @@ fn takes_faults_and_pins(rt: HostRuntime) -> Result<(), Fail> {
 }
 
 #[test]
-fn gives_the_last_entry(rt: HostRuntime) -> Result<(), Fail> {
-    let mut queue = Queue::new(rt.alloc())?;
-    queue.push(1, 3);
-    queue.push(2, 3);
-    assert!(rt; queue.len() == 2);
-    let moved = give_last(0, Balance, &[2, 0], &mut queue);
-    assert!(rt; moved.map(|entry| entry.vcpu) == Some(2));
+fn moves_the_last_entry_of_the_longest(rt: HostRuntime) -> Result<(), Fail> {
+    let mut longest = Queue::new(rt.alloc())?;
+    let mut shortest = Queue::new(rt.alloc())?;
+    longest.push(1, 3);
+    longest.push(2, 5);
+    let moved = longest.last();
+    balance_queue(0, &[2, 0], moved, &mut longest);
+    balance_queue(1, &[2, 0], moved, &mut shortest);
+    assert!(rt; longest.head() == Some(1));
+    assert!(rt; shortest.head() == Some(2));
     let told = tell_move(&[2, 0], moved);
     assert!(rt; matches!(told, Reply::Balance(Some(_))));
     Ok(())
 }
 
 #[test]
-fn measures_queues(rt: HostRuntime) -> Result<(), Fail> {
-    let queues = [Queue::new(rt.alloc())?, Queue::new(rt.alloc())?];
-    let mut lengths = Vec::with_capacity(rt.alloc(), 2)?;
-    measure(&queues, &mut lengths);
-    assert!(rt; lengths.as_slice() == [0, 0].as_slice());
+fn balances_where_the_orphan_runs(rt: HostRuntime) -> Result<(), Fail> {
+    let orphan = running();
+    let mut lengths = Vec::with_capacity(rt.alloc(), 1)?;
+    measure(&Queue::new(rt.alloc())?, &mut lengths);
+    let made: Option<(Reply, Handed<Device>)> = balance(0, Balance, &lengths, None, &orphan);
+    assert!(rt; made.is_some());
+    let left: Option<(Reply, Handed<Device>)> = balance(1, Balance, &lengths, None, &orphan);
+    assert!(rt; left.is_none());
     let _: Handed<Device> = hand_balance(&lengths, None);
-    assert!(rt; !runs_on(0, &Vcpu::new()));
+    assert!(rt; runs_on(0, &orphan));
     Ok(())
 }
