@@ -3,6 +3,6 @@ mod Told
 pub mod Guests
 pub mod Unique
 mod Scripts
-mod Boots
+pub mod Boots
 mod Turns
 pub mod Rounds

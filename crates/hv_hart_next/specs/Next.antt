@@ -1,0 +1,46 @@
+-- What an actor does next, in the states that legal histories lead to, and what comes of a run in rounds.
+use Rattle.std.specs.Prelude.{◌≡◌, ℕ, Bool, List}
+use Rattle.hv_event.specs.declared.event.ActorId.TheVariants.{Hart}
+use Rattle.hv_event.specs.declared.event.Event.{Event}
+use Rattle.hv_machine.specs.Machine.{State, MayHappen}
+use Rattle.hv_model.specs.declared.entry.Entry.{Entry}
+use Rattle.hv_model.specs.Legal.{Leads, begun, start}
+use Rattle.hv_model.specs.Origin.{Origin}
+use Rattle.hv_model.specs.Report.{IsReport}
+use Rattle.hv_model.specs.Rounds.{IsRounds}
+use Rattle.hv_model.specs.Rules.{machine}
+use Rattle.hv_window_laws.specs.Legal.{AreInOrder}
+
+-- A state is reached where a legal history leads to it whose events are in order.
+pub record IsReached (O : Origin) (s : State (machine O)) : Type 0 where
+  pub history : List Event
+  pub leads : Leads O history s
+  pub boot_in_order : AreInOrder O (start O) leads.boot
+  pub later_in_order : AreInOrder O (begun O leads.boot) leads.later
+
+-- A hart has one next event at most.
+abbrev pub HartHasOneNextEvent : Type 0
+HartHasOneNextEvent =
+    (O : Origin) (s : State (machine O)) → IsReached O s → (h : ℕ) (e f : Entry)
+    → e.event.actor ≡ Hart h → f.event.actor ≡ Hart h
+    → MayHappen (machine O) s e → MayHappen (machine O) s f → e ≡ f
+
+-- So has any actor.
+abbrev pub ActorHasOneNextEvent : Type 0
+ActorHasOneNextEvent =
+    (O : Origin) (s : State (machine O)) → IsReached O s → (e f : Entry)
+    → e.event.actor ≡ f.event.actor
+    → MayHappen (machine O) s e → MayHappen (machine O) s f → e ≡ f
+
+-- A run in rounds whose events are in order has one history.
+abbrev pub RoundsHaveOneHistory : Type 0
+RoundsHaveOneHistory =
+    (O : Origin) (H K : List Event) (one : IsRounds O H) → IsRounds O K
+    → AreInOrder O (start O) one.boot → AreInOrder O (begun O one.boot) one.made → H ≡ K
+
+-- And so it has one report.
+abbrev pub RoundsHaveOneReport : Type 0
+RoundsHaveOneReport =
+    (O : Origin) (H K : List Event) (threads brief : Bool) (text other : List ℕ) (one : IsRounds O H) → IsRounds O K
+    → AreInOrder O (start O) one.boot → AreInOrder O (begun O one.boot) one.made
+    → IsReport O H threads brief text → IsReport O K threads brief other → text ≡ other

@@ -1,0 +1,25 @@
+//! Laws of the definitions, each the contract of a function that does nothing.
+ghost use Rattle.hv_hart_next.specs.Next.{ActorHasOneNextEvent, HartHasOneNextEvent};
+ghost use Rattle.hv_hart_next.specs.Next.{RoundsHaveOneHistory, RoundsHaveOneReport};
+
+use hv_model::a_history_has_one_report;
+
+/// In each state that a legal history leads to whose events are in order, a hart has one next event
+/// at most: its step, its reply, what it hands over, its index and its stamp.
+pub fn a_hart_has_one_next_event()
+    ensures { HartHasOneNextEvent }
+{}
+
+/// There any actor has one next event at most.
+pub fn an_actor_has_one_next_event()
+    ensures { ActorHasOneNextEvent }
+{}
+
+/// A run in rounds whose events are in order has one history, whatever turns harts make, and so one
+/// report.
+pub fn rounds_have_one_history()
+    ensures history { RoundsHaveOneHistory }
+    ensures report { RoundsHaveOneReport }
+{
+    a_history_has_one_report();
+}

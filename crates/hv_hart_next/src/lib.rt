@@ -1,0 +1,7 @@
+//! The definitions of the abstract hypervisor leave nothing open for harts either: what a hart does
+//! next, and what comes of a run in rounds.
+#![tactic(auto)]
+
+mod laws;
+
+pub use laws::{a_hart_has_one_next_event, an_actor_has_one_next_event, rounds_have_one_history};
