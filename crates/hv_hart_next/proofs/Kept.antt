@@ -113,7 +113,7 @@ start-running : (count : ℕ) (b : Board) → IsStart count b → (v h : ℕ) �
 start-running count b is zero h run = let r = is.orphan in cc
 start-running count b is (suc v) h run = let r = ap (λ (x : VcpuValue). x.state) (is.others v) in cc
 
-start-kept : (count : ℕ) (b : Board) → IsStart count b → Kept count b
+pub start-kept : (count : ℕ) (b : Board) → IsStart count b → Kept count b
 start-kept count b is = record {
   currents = record {
     runs = λ v h run. absurd (start-running count b is v h run);
@@ -123,7 +123,7 @@ start-kept count b is = record {
   sized = λ h. subst IsSized (sym (is.nothing_pending h)) tt;
 }
 
-step-kept : (count : ℕ) (before after : Board) (m : Made) → IsStep count before after m → Kept count before → Kept count after
+pub step-kept : (count : ℕ) (before after : Board) (m : Made) → IsStep count before after m → Kept count before → Kept count after
 step-kept count before after m is J = record {
   currents = currents-kept count before after m is J.currents;
   known = λ h.

@@ -4,3 +4,7 @@ pub mod Kept
 pub mod Once
 pub mod Unique
 pub mod Rounds
+pub mod Can
+pub mod Owned
+pub mod Turns
+pub mod Exists

@@ -42,7 +42,7 @@ use Rattle.hv_hart_next.proofs.Kept.{Kept, kept-reached, IsSized, size_of}
 use Rattle.hv_hart_next.proofs.Once.{At, Agreed, Does, sample-once, pin-once, tick-once, idle-once, dispatch-once, last-agrees, preempt-once, leave-once, take-once, fault-once, balance-once, fetch-once, access-once}
 
 -- what is known of a row
-abbrev IsKnown : Row → Type 0
+abbrev pub IsKnown : Row → Type 0
 IsKnown (owes next) = is_signal next ≡ true
 IsKnown (waits vcpu pending generation) = 1 ≤ size_of pending
 IsKnown row = Unit {0}
@@ -67,7 +67,7 @@ pending-known : (n : ℕ) (hart : HartState) (pending : Option (Pending × Gener
 pending-known n hart None sized = turn-known n hart hart.left
 pending-known n hart (Some pending) sized = waits-known hart.current pending.0 pending.1 sized
 
-owed-known : (n : ℕ) (hart : HartState) (owed : List Step) → list_all is_signal owed ≡ true → IsSized hart.pending → IsKnown (owed_row n hart owed)
+pub owed-known : (n : ℕ) (hart : HartState) (owed : List Step) → list_all is_signal owed ≡ true → IsSized hart.pending → IsKnown (owed_row n hart owed)
 owed-known n hart [] signals sized = pending-known n hart hart.pending sized
 owed-known n hart (next ∷ later) signals sized = first-signal (is_signal next) (list_all is_signal later) signals
 

@@ -1,15 +1,20 @@
 -- What an actor does next, in the states that legal histories lead to, and what comes of a run in rounds.
-use Rattle.std.specs.Prelude.{◌≡◌, ℕ, Bool, List}
+use Rattle.std.specs.Prelude.{◌≡◌, ℕ, suc, ◌<◌, Bool, false, List, Some}
 use Rattle.hv_event.specs.declared.event.ActorId.TheVariants.{Hart}
+use Rattle.hv_event.specs.declared.event.CellId.TheVariants as component
 use Rattle.hv_event.specs.declared.event.Event.{Event}
+use Rattle.hv_kinds.specs.declared.state.State.TheVariants.{Running}
 use Rattle.hv_machine.specs.Machine.{State, MayHappen}
+use Rattle.hv_model.specs.Cell.{Component}
 use Rattle.hv_model.specs.declared.entry.Entry.{Entry}
 use Rattle.hv_model.specs.Legal.{Leads, begun, start}
 use Rattle.hv_model.specs.Origin.{Origin}
 use Rattle.hv_model.specs.Report.{IsReport}
-use Rattle.hv_model.specs.Rounds.{IsRounds}
+use Rattle.hv_model.specs.Rounds.{IsRounds, has_ended}
 use Rattle.hv_model.specs.Rules.{machine}
+use Rattle.hv_rules.specs.Hart.{slot_of}
 use Rattle.hv_window_laws.specs.Legal.{AreInOrder}
+use Rattle.hv_window_laws.specs.Windows.{birth_in}
 
 -- A state is reached where a legal history leads to it whose events are in order.
 pub record IsReached (O : Origin) (s : State (machine O)) : Type 0 where
@@ -44,3 +49,16 @@ RoundsHaveOneReport =
     (O : Origin) (H K : List Event) (threads brief : Bool) (text other : List ℕ) (one : IsRounds O H) → IsRounds O K
     → AreInOrder O (start O) one.boot → AreInOrder O (begun O one.boot) one.made
     → IsReport O H threads brief text → IsReport O K threads brief other → text ≡ other
+
+-- A VCPU of a guest that runs is of the guest that the directory has in its slot.
+abbrev pub RunningIsOfItsGuest : (O : Origin) → State (machine O) → Type 0
+RunningIsOfItsGuest O s =
+    (v h : ℕ) → (s (Component (component.Vcpu (suc v)))).value.state ≡ Running h
+    → birth_in (s (Component component.Dir)).value (slot_of (suc v)) ≡ Some (s (Component (component.Vcpu (suc v)))).value.birth
+
+-- A hart that is there has a next event unless it is at its end, where VCPUs that run are of their guests.
+abbrev pub HartHasANextEvent : Type 0
+HartHasANextEvent =
+    (O : Origin) (s : State (machine O)) → IsReached O s → RunningIsOfItsGuest O s → (h : ℕ) → h < O.opening.harts
+    → has_ended O s (Hart h) ≡ false
+    → (e : Entry) × (e.event.actor ≡ Hart h) × MayHappen (machine O) s e

@@ -1,5 +1,5 @@
 //! Laws of the definitions, each the contract of a function that does nothing.
-ghost use Rattle.hv_hart_next.specs.Next.{ActorHasOneNextEvent, HartHasOneNextEvent};
+ghost use Rattle.hv_hart_next.specs.Next.{ActorHasOneNextEvent, HartHasANextEvent, HartHasOneNextEvent};
 ghost use Rattle.hv_hart_next.specs.Next.{RoundsHaveOneHistory, RoundsHaveOneReport};
 
 use hv_model::a_history_has_one_report;
@@ -23,3 +23,9 @@ pub fn rounds_have_one_history()
 {
     a_history_has_one_report();
 }
+
+/// In each such state where a VCPU that runs is of the guest that has its slot, a hart that is there
+/// has a next event unless it is at its end.
+pub fn a_hart_has_a_next_event()
+    ensures { HartHasANextEvent }
+{}
