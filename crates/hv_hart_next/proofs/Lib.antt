@@ -8,3 +8,4 @@ pub mod Can
 pub mod Owned
 pub mod Turns
 pub mod Exists
+pub mod Vcpus

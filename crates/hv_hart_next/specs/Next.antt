@@ -1,10 +1,13 @@
 -- What an actor does next, in the states that legal histories lead to, and what comes of a run in rounds.
-use Rattle.std.specs.Prelude.{◌≡◌, ℕ, suc, ◌<◌, Bool, false, List, Some}
+use Rattle.std.specs.Prelude.{◌≡◌, ℕ, suc, ◌<◌, Bool, false, List, [], ◌∷◌, Option, None, Some, Result, Ok}
+use Rattle.hv_dir.specs.Directory.{DirState, guest_at}
+use Rattle.hv_dir.specs.declared.refusal.DirRefusal.{DirRefusal}
 use Rattle.hv_event.specs.declared.event.ActorId.TheVariants.{Hart}
 use Rattle.hv_event.specs.declared.event.CellId.TheVariants as component
 use Rattle.hv_event.specs.declared.event.Event.{Event}
-use Rattle.hv_kinds.specs.declared.state.State.TheVariants.{Running}
-use Rattle.hv_machine.specs.Machine.{State, MayHappen}
+use Rattle.hv_kinds.specs.declared.stage.Stage.{Stage}
+use Rattle.hv_kinds.specs.declared.state.State.TheVariants.{Running, Unknown}
+use Rattle.hv_machine.specs.Machine.{State, MayHappen, next_state}
 use Rattle.hv_model.specs.Cell.{Component}
 use Rattle.hv_model.specs.declared.entry.Entry.{Entry}
 use Rattle.hv_model.specs.Legal.{Leads, begun, start}
@@ -13,6 +16,9 @@ use Rattle.hv_model.specs.Report.{IsReport}
 use Rattle.hv_model.specs.Rounds.{IsRounds, has_ended}
 use Rattle.hv_model.specs.Rules.{machine}
 use Rattle.hv_rules.specs.Hart.{slot_of}
+use Rattle.hv_step.specs.declared.step.Step.{Step}
+use Rattle.hv_step.specs.declared.step.Step.TheVariants as step
+use Rattle.hv_vcpu.specs.Vcpu.{VcpuValue}
 use Rattle.hv_window_laws.specs.Legal.{AreInOrder}
 use Rattle.hv_window_laws.specs.Windows.{birth_in}
 
@@ -50,15 +56,44 @@ RoundsHaveOneReport =
     → AreInOrder O (start O) one.boot → AreInOrder O (begun O one.boot) one.made
     → IsReport O H threads brief text → IsReport O K threads brief other → text ≡ other
 
+-- A slot is let go once no VCPU of it is there.
+abbrev pub LeavesNoVcpu : (vcpus : ℕ → VcpuValue) → (guest : Result (ℕ × ℕ) DirRefusal) → (next : Option Stage) → Type 0
+LeavesNoVcpu vcpus (Ok guest) None = (v : ℕ) → slot_of (suc v) ≡ guest.0 → (vcpus (suc v)).state ≡ Unknown
+LeavesNoVcpu vcpus guest next = Unit {0}
+
+-- What is asked of an actor besides what the components see to: it adds a VCPU to the guest that has its slot, and lets
+-- a slot go only once no VCPU of it is there.
+abbrev pub IsVcpuInOrder : DirState → (vcpus : ℕ → VcpuValue) → Step → Type 0
+IsVcpuInOrder dir vcpus (step.Vadd s) = birth_in dir (slot_of s.vcpu) ≡ Some s.birth
+IsVcpuInOrder dir vcpus (step.Stage s) = LeavesNoVcpu vcpus (guest_at dir s.name s.from) s.to
+IsVcpuInOrder dir vcpus _ = Unit {0}
+
+-- Each event is so, in the state in which it is made.
+abbrev pub AreVcpusInOrder : (O : Origin) → State (machine O) → List Entry → Type 0
+AreVcpusInOrder O s [] = Unit {0}
+AreVcpusInOrder O s (e ∷ es) =
+    IsVcpuInOrder (s (Component component.Dir)).value (λ v. (s (Component (component.Vcpu v))).value) e.event.step
+    × AreVcpusInOrder O (next_state (machine O) s e) es
+
+-- The history of a state that is reached has VCPUs in order too.
+pub record HasVcpusInOrder (O : Origin) (s : State (machine O)) (is : IsReached O s) : Type 0 where
+  pub boot : AreVcpusInOrder O (start O) is.leads.boot
+  pub later : AreVcpusInOrder O (begun O is.leads.boot) is.leads.later
+
 -- A VCPU of a guest that runs is of the guest that the directory has in its slot.
 abbrev pub RunningIsOfItsGuest : (O : Origin) → State (machine O) → Type 0
 RunningIsOfItsGuest O s =
     (v h : ℕ) → (s (Component (component.Vcpu (suc v)))).value.state ≡ Running h
-    → birth_in (s (Component component.Dir)).value (slot_of (suc v)) ≡ Some (s (Component (component.Vcpu (suc v)))).value.birth
+    → birth_in (s (Component component.Dir)).value (slot_of (suc v))
+    ≡ Some (s (Component (component.Vcpu (suc v)))).value.birth
 
--- A hart that is there has a next event unless it is at its end, where VCPUs that run are of their guests.
+abbrev pub RunningVcpusAreOfTheirGuests : Type 0
+RunningVcpusAreOfTheirGuests =
+    (O : Origin) (s : State (machine O)) (is : IsReached O s) → HasVcpusInOrder O s is → RunningIsOfItsGuest O s
+
+-- A hart that is there has a next event unless it is at its end.
 abbrev pub HartHasANextEvent : Type 0
 HartHasANextEvent =
-    (O : Origin) (s : State (machine O)) → IsReached O s → RunningIsOfItsGuest O s → (h : ℕ) → h < O.opening.harts
-    → has_ended O s (Hart h) ≡ false
+    (O : Origin) (s : State (machine O)) (is : IsReached O s) → HasVcpusInOrder O s is → (h : ℕ)
+    → h < O.opening.harts → has_ended O s (Hart h) ≡ false
     → (e : Entry) × (e.event.actor ≡ Hart h) × MayHappen (machine O) s e

@@ -1,6 +1,7 @@
 //! Laws of the definitions, each the contract of a function that does nothing.
 ghost use Rattle.hv_hart_next.specs.Next.{ActorHasOneNextEvent, HartHasANextEvent, HartHasOneNextEvent};
 ghost use Rattle.hv_hart_next.specs.Next.{RoundsHaveOneHistory, RoundsHaveOneReport};
+ghost use Rattle.hv_hart_next.specs.Next.{RunningVcpusAreOfTheirGuests};
 
 use hv_model::a_history_has_one_report;
 
@@ -24,8 +25,13 @@ pub fn rounds_have_one_history()
     a_history_has_one_report();
 }
 
-/// In each such state where a VCPU that runs is of the guest that has its slot, a hart that is there
-/// has a next event unless it is at its end.
+/// In each such state of a history that adds VCPUs to the guests of their slots, and lets a slot go
+/// only once no VCPU of it is there, a VCPU that runs is of the guest that has its slot.
+pub fn running_vcpus_are_of_their_guests()
+    ensures { RunningVcpusAreOfTheirGuests }
+{}
+
+/// And there a hart has a next event unless it is at its end.
 pub fn a_hart_has_a_next_event()
     ensures { HartHasANextEvent }
 {}
