@@ -19,7 +19,8 @@ use Rattle.hv_rules.specs.Hart.{slot_of}
 use Rattle.hv_step.specs.declared.step.Step.{Step}
 use Rattle.hv_step.specs.declared.step.Step.TheVariants as step
 use Rattle.hv_vcpu.specs.Vcpu.{VcpuValue}
-use Rattle.hv_window_laws.specs.Legal.{AreInOrder}
+use Rattle.hv_window_laws.specs.Guests.{IsInOrder}
+use Rattle.hv_window_laws.specs.Legal.{AreInOrder, guests_of}
 use Rattle.hv_window_laws.specs.Windows.{birth_in}
 
 -- A state is reached where a legal history leads to it whose events are in order.
@@ -97,3 +98,11 @@ HartHasANextEvent =
     (O : Origin) (s : State (machine O)) (is : IsReached O s) → HasVcpusInOrder O s is → (h : ℕ)
     → h < O.opening.harts → has_ended O s (Hart h) ≡ false
     → (e : Entry) × (e.event.actor ≡ Hart h) × MayHappen (machine O) s e
+
+-- What a hart does is in order, so that this asks something of terminals alone.
+abbrev pub HartsAreInOrder : Type 0
+HartsAreInOrder =
+    (O : Origin) (s : State (machine O)) → IsReached O s → (h : ℕ) (e : Entry)
+    → e.event.actor ≡ Hart h → MayHappen (machine O) s e
+    → IsInOrder (guests_of O s) e.event.step e.carry
+    × IsVcpuInOrder (s (Component component.Dir)).value (λ v. (s (Component (component.Vcpu v))).value) e.event.step

@@ -1,7 +1,7 @@
 //! Laws of the definitions, each the contract of a function that does nothing.
 ghost use Rattle.hv_hart_next.specs.Next.{ActorHasOneNextEvent, HartHasANextEvent, HartHasOneNextEvent};
 ghost use Rattle.hv_hart_next.specs.Next.{RoundsHaveOneHistory, RoundsHaveOneReport};
-ghost use Rattle.hv_hart_next.specs.Next.{RunningVcpusAreOfTheirGuests};
+ghost use Rattle.hv_hart_next.specs.Next.{HartsAreInOrder, RunningVcpusAreOfTheirGuests};
 
 use hv_model::a_history_has_one_report;
 
@@ -34,4 +34,9 @@ pub fn running_vcpus_are_of_their_guests()
 /// And there a hart has a next event unless it is at its end.
 pub fn a_hart_has_a_next_event()
     ensures { HartHasANextEvent }
+{}
+
+/// What a hart does is in order: these laws ask something of terminals alone.
+pub fn harts_are_in_order()
+    ensures { HartsAreInOrder }
 {}
