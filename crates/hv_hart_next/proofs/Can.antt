@@ -1,6 +1,6 @@
 -- Each step that a hart's row asks for can be answered.
 use Rattle.std.proofs.Common.{◌≡◌, ℕ, zero, suc, ◌+◌, ◌<◌, ◌≤◌, ◌==◌, nat_lt, Bool, true, false, if◌then◌else◌, List, [], ◌∷◌, ◌++◌, map, length, get_or, refl, sym, ap, subst, ◌∙◌, arith, eqb-true, eq-eqb}
-use Rattle.std.specs.Prelude.{Option, None, Some, MatchBool, ◌&&◌, ◌%◌, is_some, option_map}
+use Rattle.std.specs.Prelude.{Option, None, Some, MatchBool, ◌&&◌, is_some}
 use Rattle.std.specs.Bool.{then_some}
 use Rattle.std.specs.List.{AllByRecursion, range_with_len}
 use Rattle.std.specs.Option.{option_map_or}
@@ -22,7 +22,6 @@ use Rattle.hv_event.specs.declared.event.CellId.{CellId}
 use Rattle.hv_event.specs.declared.event.CellId.TheVariants as component
 use Rattle.hv_exec.specs.declared.context.After.{After}
 use Rattle.hv_exec.specs.declared.context.After.TheVariants as after
-use Rattle.hv_kinds.specs.declared.access.AccessKind.{AccessKind}
 use Rattle.hv_kinds.specs.declared.access.AccessKind.TheVariants as access
 use Rattle.hv_kinds.specs.declared.access.Direction.{Direction}
 use Rattle.hv_kinds.specs.declared.access.Direction.TheVariants.{Read, Write}
@@ -42,12 +41,10 @@ use Rattle.hv_rules.specs.Area.{value_read}
 use Rattle.hv_rules.specs.Balance.{is_uneven, longest, told_move}
 use Rattle.hv_rules.specs.Body.{BodyValue, ShowsAccess, ShowsLevel, ShowsWord, TakesLevel, access_answer, accessed, answer_to, area_in, changes, fetch_from, index_of, is_born, left_by, line_in, no_changes, parent_of, pins_in, signalled}
 use Rattle.hv_rules.specs.Carry.{Carry, Pending, load, store, nothing}
-use Rattle.hv_rules.specs.Footprint.{all_queues, clock_body, shared_area}
-use Rattle.hv_rules.specs.Hart.{Row, Current, HartState, FitsPending, FitsRun, FitsCurrent, Fits, owes, waits, ends, ticks, free, runs, access_of, slot_of}
+use Rattle.hv_rules.specs.Hart.{Row, Current, FitsPending, FitsRun, FitsCurrent, Fits, owes, waits, ends, ticks, free, runs, access_of, slot_of}
 use Rattle.hv_rules.specs.Queue.{SaysMoved}
 use Rattle.hv_rules.specs.Space.{Ticks, reached}
 use Rattle.hv_rules.specs.Vcpu.{Shows, dispatched, fault_cause, is_of, TakesInterrupt, pending_of, runs_on}
-use Rattle.hv_rules.specs.Windows.{guest_place}
 use Rattle.hv_step.specs.declared.step.Access.{Access}
 use Rattle.hv_step.specs.declared.step.Fault.{Fault}
 use Rattle.hv_step.specs.declared.step.Fetch.{Fetch}
@@ -63,7 +60,7 @@ use Rattle.hv_window_laws.specs.Legal.{guests_of}
 use Rattle.hv_window_laws.specs.Windows.{birth_in, if_leads}
 use Rattle.hv_window_laws.proofs.Answered.{access-in-window, fetch-in-window}
 use Rattle.hv_hart_next.proofs.Kept.{size_of}
-use Rattle.hv_hart_next.proofs.Once.{At, Agreed, Does, accessing, balancing, fetching, ticking, longest-below}
+use Rattle.hv_hart_next.proofs.Once.{At, Does, accessing, balancing, fetching, ticking}
 use Rattle.hv_hart_next.proofs.Reached.{Known}
 use Rattle.hv_hart_next.proofs.Sizes.{carried-whole, is_whole}
 

@@ -1,5 +1,5 @@
 -- A hart that is there has a next event unless it is at its end.
-use Rattle.std.proofs.Common.{◌≡◌, ℕ, zero, suc, ◌+◌, ◌<◌, ◌≤◌, ◌==◌, ◌&&◌, not, Bool, true, false, if◌then◌else◌, List, [], ◌∷◌, map, eq-eqb, refl, sym, ap, subst, ◌∙◌, arith}
+use Rattle.std.proofs.Common.{◌≡◌, ℕ, zero, suc, ◌+◌, ◌==◌, ◌&&◌, not, Bool, true, false, if◌then◌else◌, List, [], ◌∷◌, map, eq-eqb, refl, sym, ap, subst, ◌∙◌, arith}
 use Rattle.std.specs.Prelude.{Option, None, Some, option_map, ◌%◌}
 use Rattle.std.specs.List.{AllByRecursion, list_all}
 use Rattle.hv_answer.specs.declared.reply.Reply.{Reply}
@@ -7,7 +7,6 @@ use Rattle.hv_event.specs.declared.event.ActorId.TheVariants.{Hart}
 use Rattle.hv_event.specs.declared.event.CellId.{CellId}
 use Rattle.hv_event.specs.declared.event.CellId.TheVariants as component
 use Rattle.hv_kinds.specs.declared.generation.Generation.{Generation}
-use Rattle.hv_kinds.specs.declared.state.State.TheVariants.{Running}
 use Rattle.hv_laws.specs.Laws.{current_of}
 use Rattle.hv_laws.specs.Legal.{board_of}
 use Rattle.hv_laws.proofs.Frame.{true-false}
@@ -16,7 +15,7 @@ use Rattle.hv_laws.proofs.States.{runs-here}
 use Rattle.hv_machine.specs.Machine.{MayHappen, State, greatest}
 use Rattle.hv_model.specs.Cell.{Component, Actor}
 use Rattle.hv_model.specs.declared.entry.Entry.{Entry}
-use Rattle.hv_model.specs.Hart.{hart_has_ended, is_free}
+use Rattle.hv_model.specs.Hart.{is_free}
 use Rattle.hv_model.specs.Origin.{Origin}
 use Rattle.hv_model.specs.Rounds.{has_ended}
 use Rattle.hv_model.specs.Rules.{IsAllowedAt, components_of, footprint_of, machine}
@@ -29,7 +28,7 @@ use Rattle.hv_vcpu.specs.Vcpu.{VcpuValue}
 use Rattle.hv_window_laws.specs.Windows.{birth_in}
 use Rattle.hv_hart_next.specs.Next.{RunningIsOfItsGuest}
 use Rattle.hv_hart_next.proofs.Can.{Can, IsReady, row-can}
-use Rattle.hv_hart_next.proofs.Kept.{IsSized, size_of}
+use Rattle.hv_hart_next.proofs.Kept.{IsSized}
 use Rattle.hv_hart_next.proofs.Once.{At, Does}
 use Rattle.hv_hart_next.proofs.Owned.{IsOf, Owned, owned-reached}
 use Rattle.hv_hart_next.proofs.Reached.{Known}

@@ -1,6 +1,6 @@
 -- What holds of each board that steps lead to: a hart owes interrupt steps alone, knows how many harts there are, and
 -- waits for accesses of at least one byte.
-use Rattle.std.proofs.Common.{◌≡◌, ℕ, zero, suc, ◌≤◌, ◌==◌, Bool, true, false, eq-eqb, refl, sym, ap, subst, ◌∙◌, List, [], ◌∷◌}
+use Rattle.std.proofs.Common.{◌≡◌, ℕ, zero, suc, ◌≤◌, ◌==◌, true, eq-eqb, refl, sym, ap, subst, ◌∙◌, List}
 use Rattle.std.specs.Prelude.{Option, None, Some, Ok}
 use Rattle.std.specs.List.{list_all, list_any}
 use Rattle.hv_answer.specs.declared.reply.Outcome.{Outcome}
@@ -25,7 +25,6 @@ use Rattle.hv_rules.specs.Carry.{Carry, Pending, load, store}
 use Rattle.hv_rules.specs.Footprint.{components, reached}
 use Rattle.hv_rules.specs.Hart.{HartState, faulted, fetched, hart_after, pended}
 use Rattle.hv_rules.specs.Vcpu.{AgreesToFetch, pending_of}
-use Rattle.hv_step.specs.declared.step.Fetch.{Fetch}
 use Rattle.hv_step.specs.declared.step.Step.{Step}
 use Rattle.hv_step.specs.declared.step.Step.TheVariants as step
 use Rattle.hv_vcpu.specs.Instruction.{carried_out}

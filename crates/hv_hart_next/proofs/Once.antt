@@ -23,7 +23,7 @@ use Rattle.hv_next.proofs.Guests.{Agreed as TerminalAgreed, At as TerminalAt, bo
 use Rattle.hv_queue.specs.declared.entry.QueueEntry.{QueueEntry}
 use Rattle.hv_rules.specs.Area.{value_read}
 use Rattle.hv_rules.specs.Balance.{first_place, is_uneven, longest, told_move}
-use Rattle.hv_rules.specs.Body.{BodyValue, ShowsAccess, ShowsWord, accessed, answer_to, area_in, changes, fetch_from, left_by, no_changes, parent_of, word_of}
+use Rattle.hv_rules.specs.Body.{BodyValue, ShowsAccess, ShowsWord, accessed, answer_to, area_in, changes, fetch_from, left_by, no_changes, word_of}
 use Rattle.hv_rules.specs.Carry.{Carry, Pending, nothing}
 use Rattle.hv_rules.specs.Footprint.{clock_body, components, shared_area}
 use Rattle.hv_rules.specs.Handed.{handed_over}

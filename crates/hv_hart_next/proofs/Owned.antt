@@ -1,5 +1,5 @@
 -- The access that a hart waits for is one of the VCPU that it runs, of the guest that the VCPU is of while it runs there.
-use Rattle.std.proofs.Common.{◌≡◌, ℕ, zero, suc, ◌==◌, ◌⊎◌, inl, inr, Bool, true, false, if◌then◌else◌, eq-eqb, refl, sym, ap, subst, ◌∙◌, List, [], ◌∷◌}
+use Rattle.std.proofs.Common.{◌≡◌, ℕ, zero, suc, ◌==◌, ◌⊎◌, inl, inr, Bool, true, false, if◌then◌else◌, eq-eqb, refl, sym, ap, subst, ◌∙◌}
 use Rattle.std.specs.Prelude.{Option, None, Some, Ok, Err, Result, option_map}
 use Rattle.std.specs.List.{list_any}
 use Rattle.hv_answer.specs.declared.reply.Outcome.{Outcome}

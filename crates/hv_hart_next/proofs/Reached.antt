@@ -1,6 +1,6 @@
 -- What is known of each state that a run leads to whose events are in order: its board and its guests are reached by
 -- steps, and a hart that isn't there stays as at the start.
-use Rattle.std.proofs.Common.{◌≡◌, ℕ, ◌≤◌, ◌||◌, nat_lt, Bool, true, false, inl, inr, if◌then◌else◌, List, [], ◌∷◌, ◌++◌, map, None, refl, sym, ap, subst, ◌∙◌, arith}
+use Rattle.std.proofs.Common.{◌≡◌, ℕ, ◌≤◌, ◌||◌, nat_lt, Bool, false, inl, inr, if◌then◌else◌, List, [], ◌∷◌, ◌++◌, map, None, refl, sym, ap, subst, ◌∙◌, arith}
 use Rattle.std.specs.List.{list_any}
 use Rattle.hv_event.specs.declared.event.ActorId.TheVariants.{Hart}
 use Rattle.hv_event.specs.declared.event.CellId.{CellId}
@@ -15,7 +15,7 @@ use Rattle.hv_machine.specs.Machine.{IsRun as IsMachineRun}
 use Rattle.hv_model.specs.Cell.{Actor, Component, same_cell, same_component}
 use Rattle.hv_model.specs.declared.entry.Entry.{Entry}
 use Rattle.hv_model.specs.Hart.{HartState, hart_at_start}
-use Rattle.hv_model.specs.Legal.{begun, booted, first, reached, start}
+use Rattle.hv_model.specs.Legal.{begun, booted, first, start}
 use Rattle.hv_model.specs.Origin.{Origin}
 use Rattle.hv_model.specs.Rules.{components_of, machine}
 use Rattle.hv_rules.specs.Carry.{Carry}

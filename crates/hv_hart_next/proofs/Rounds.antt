@@ -1,6 +1,6 @@
 -- A run in rounds has one history.
 use Rattle.std.proofs.Common.{◌≡◌, List, [], ◌∷◌, ◌++◌, map, refl, sym, ap, subst, ◌∙◌}
-use Rattle.std.specs.Prelude.{Option, None, Some}
+use Rattle.std.specs.Prelude.{None, Some}
 use Rattle.hv_event.specs.declared.event.ActorId.{ActorId}
 use Rattle.hv_event.specs.declared.event.ActorId.TheVariants.{Hart, Terminal}
 use Rattle.hv_event.specs.declared.event.Event.{Event}
@@ -8,7 +8,7 @@ use Rattle.hv_machine.specs.Machine.{State, MayHappen, next_state, events_by, Is
 use Rattle.hv_machine.proofs.MergingLemmas.{rising-unique}
 use Rattle.hv_model.specs.Cell.{rank_of}
 use Rattle.hv_model.specs.declared.entry.Entry.{Entry}
-use Rattle.hv_model.specs.Legal.{start, booted, begun}
+use Rattle.hv_model.specs.Legal.{start, begun}
 use Rattle.hv_model.specs.Origin.{Origin, own_script}
 use Rattle.hv_model.specs.Rounds.{TakesTurns, IsRounds}
 use Rattle.hv_model.specs.Rules.{machine}

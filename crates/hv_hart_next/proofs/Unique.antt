@@ -11,20 +11,19 @@ use Rattle.hv_event.specs.declared.event.CellId.{CellId}
 use Rattle.hv_event.specs.declared.event.CellId.TheVariants as component
 use Rattle.hv_kinds.specs.declared.access.AccessKind.{AccessKind}
 use Rattle.hv_kinds.specs.declared.access.AccessKind.TheVariants as access
-use Rattle.hv_kinds.specs.declared.access.Direction.TheVariants.{Read, Write}
 use Rattle.hv_kinds.specs.declared.generation.Generation.{Generation}
 use Rattle.hv_laws.specs.Legal.{board_of}
 use Rattle.hv_laws.proofs.Frame.{true-false}
 use Rattle.hv_laws.proofs.Rows.{is_signal, first-signal}
 use Rattle.hv_machine.specs.Machine.{State, MayHappen, greatest}
-use Rattle.hv_model.specs.Cell.{Cell, Component, Actor}
+use Rattle.hv_model.specs.Cell.{Component, Actor}
 use Rattle.hv_model.specs.declared.entry.Entry.{Entry}
 use Rattle.hv_model.specs.Origin.{Origin}
 use Rattle.hv_model.specs.Rules.{machine, components_of, footprint_of, IsAllowedAt}
 use Rattle.hv_next.proofs.Guests.{both}
 use Rattle.hv_rules.specs.Carry.{Carry, Pending, load, store}
 use Rattle.hv_rules.specs.Footprint.{all_queues}
-use Rattle.hv_rules.specs.Hart.{HartState, Current, Row, owes, waits, ends, ticks, free, runs, waits_for, with_current, turn_row, pending_row, owed_row, row_of, access_of, IsAccess, IsPendingFault, FitsPending, FitsFree, FitsRun, FitsCurrent, Fits, HartAgrees, slot_of}
+use Rattle.hv_rules.specs.Hart.{HartState, Current, Row, owes, waits, ends, ticks, free, runs, waits_for, with_current, turn_row, pending_row, owed_row, row_of, IsAccess, IsPendingFault, FitsPending, FitsFree, FitsRun, FitsCurrent, Fits, slot_of}
 use Rattle.hv_rules.specs.Vcpu.{VcpuAgrees, runs_on, AgreesToFault, TakesInterrupt}
 use Rattle.hv_step.specs.declared.step.Access.{Access}
 use Rattle.hv_step.specs.declared.step.Fault.{Fault}
@@ -39,7 +38,7 @@ use Rattle.hv_window_laws.specs.Rows.{MayAccess, MayFault, MayFetch}
 use Rattle.hv_window_laws.proofs.Rows.{only-access, access-or-fault, only-fetch, fetch-or-fault}
 use Rattle.hv_hart_next.proofs.Reached.{Known, no-step}
 use Rattle.hv_hart_next.proofs.Kept.{Kept, kept-reached, IsSized, size_of}
-use Rattle.hv_hart_next.proofs.Once.{At, Agreed, Does, sample-once, pin-once, tick-once, idle-once, dispatch-once, last-agrees, preempt-once, leave-once, take-once, fault-once, balance-once, fetch-once, access-once}
+use Rattle.hv_hart_next.proofs.Once.{At, Does, sample-once, pin-once, tick-once, idle-once, dispatch-once, last-agrees, preempt-once, leave-once, take-once, fault-once, balance-once, fetch-once, access-once}
 
 -- what is known of a row
 abbrev pub IsKnown : Row → Type 0

@@ -1,6 +1,6 @@
 -- A VCPU that is there has the birth of the guest that has its slot: it holds at the start, and each event keeps it that
 -- adds VCPUs to the guest of their slot, and lets a slot go only once no VCPU of it is there.
-use Rattle.std.proofs.Common.{◌≡◌, ℕ, zero, suc, ◌==◌, ◌⊎◌, inl, inr, Bool, true, false, ◌||◌, ◌&&◌, if◌then◌else◌, eq-eqb, eqb-true, refl, sym, ap, subst, ◌∙◌, List, [], ◌∷◌, map}
+use Rattle.std.proofs.Common.{◌≡◌, ℕ, suc, ◌==◌, ◌⊎◌, inl, inr, Bool, true, false, ◌&&◌, if◌then◌else◌, eq-eqb, eqb-true, refl, sym, ap, subst, ◌∙◌, List, [], ◌∷◌, map}
 use Rattle.std.specs.Prelude.{Option, None, Some, Result, Ok, Err}
 use Rattle.std.specs.List.{AllByRecursion, list_any}
 use Rattle.hv_answer.specs.declared.reply.Reply.{Reply}

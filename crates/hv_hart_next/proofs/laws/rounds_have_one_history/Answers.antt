@@ -1,5 +1,5 @@
 -- It is a lemma, and a history has one report.
-use Rattle.std.proofs.Common.{List, ℕ, sym, subst}
+use Rattle.std.proofs.Common.{List, sym, subst}
 use Rattle.hv_event.specs.declared.event.Event.{Event}
 use Rattle.hv_model.specs.Report.{IsReport}
 use Rattle.hv_hart_next.proofs.Rounds.{one-history}
