@@ -1,22 +1,24 @@
 -- How a hart's program is kept.
-use Rattle.std.specs.Prelude.{ℕ, ◌<◌, false, Option, None, Some, []}
+use Rattle.std.specs.Prelude.{ℕ, ◌<◌, false, Option, None, Some, [], IfSome}
+use Rattle.std.specs.List.{All}
 use Rattle.std.specs.Option.{option_map}
 use Rattle.hv_kinds.specs.declared.access.AccessKind.{AccessKind}
 use Rattle.hv_kinds.specs.declared.access.AccessKind.TheVariants as access
 use Rattle.hv_kinds.specs.declared.generation.Generation.{Generation}
 use Rattle.hv_step.specs.declared.step.Step.{Step}
 use Rattle.hv_step.specs.declared.step.Step.TheVariants as step
-use Rattle.hv_text.specs.declared.limits.TheConstants.{SLOTS}
+use Rattle.hv_text.specs.declared.limits.TheConstants.{GUEST_REGIONS, SLOTS, VCPUS}
 use Rattle.hv_handed.specs.declared.pending.Pending.{Pending}
 use Rattle.hv_handed.specs.Given.{pended}
 use Rattle.hv_rules.specs.Carry as carried
 use Rattle.hv_rules.specs.Carry.{Carry, nothing}
 use Rattle.hv_rules.specs.Hart as hart
-use Rattle.hv_rules.specs.Hart.{Current, HartState}
+use Rattle.hv_rules.specs.Hart.{Current, HartState, IsWithinItsSlice}
+use Rattle.hv_rules.specs.Vcpu.{IsPending}
 use Rattle.hv_programs.specs.declared.row.Running.{Running}
 use Rattle.hv_programs.specs.declared.row.Row.{Row}
 use Rattle.hv_programs.specs.declared.row.Row.TheVariants as row
-use Rattle.hv_programs.specs.Owed.{step_of}
+use Rattle.hv_programs.specs.Owed.{IsOwed, IsParent, step_of}
 
 -- The VCPU that a hart runs.
 abbrev pub current_of : Running → Current
@@ -85,3 +87,25 @@ MayMake hart (step.Fetch s) = (0 < hart.left) × HasSlice hart.current
 MayMake hart (step.Access s) = (0 < hart.left) × (s.generation.slot < SLOTS)
 MayMake hart (step.Fault s) = (0 < hart.left) × HasSliceFor hart.current s.access
 MayMake hart _ = Unit {0}
+
+-- An access that waits is one that an instruction of a guest left, and ends a turn.
+pub record IsWaiting (left : ℕ) (waiting : carried.Pending × Generation) : Type 0 where
+  pub turn : 0 < left
+  pub slot : waiting.1.slot < SLOTS
+  pub access : IsPending waiting.0
+
+-- What a hart keeps: it is within its slice, it runs a VCPU of the board, and what it waits for and owes can be made.
+pub record IsHart (hart : HartState) : Type 0 where
+  pub within : IsWithinItsSlice hart
+  pub vcpu : IfSome hart.current (λ current. current.vcpu < VCPUS)
+  pub pending : IfSome hart.pending (IsWaiting hart.left)
+  pub owed : All IsOwed hart.owed
+
+-- What a step brings to a hart is of the board: a VCPU that is dispatched, the clock that ticks and the region that is
+-- accessed, each with its parent, and the access that an instruction leaves pending.
+abbrev pub Brings : Step → Carry → Type 0
+Brings (step.Dispatch s) c = s.vcpu < VCPUS
+Brings (step.Tick s) c = IfSome c.clock (λ clock. (clock.0 < GUEST_REGIONS) × IsParent clock.0 c.parent)
+Brings (step.Access s) c = (s.row < GUEST_REGIONS) × IsParent s.row c.parent
+Brings (step.Fetch s) c = IfSome c.pending IsPending
+Brings _ c = Unit {0}
