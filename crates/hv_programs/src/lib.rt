@@ -19,6 +19,6 @@ mod verdict;
 pub use ask::{Ask, Asked, Change};
 pub use hart::HartProgram;
 pub use laws::{harts_are_kept, harts_may_make_their_steps, harts_take_these_alone};
-pub use line::Line;
+pub use line::{Line, given_vcpu};
 pub use owed::{MOST_OWED, Owed, OwedStep};
 pub use row::{Row, Running};

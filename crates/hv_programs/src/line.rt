@@ -182,7 +182,8 @@ fn region_name(alloc: Global, regions: &[RegionPlan], row: u8) -> Result<Bytes, 
     }
 }
 
-fn given_vcpu(given: Option<Generation>, index: u8) -> u8
+/// The number of a guest's VCPU on the board, and 0 where the directory gives no guest.
+pub fn given_vcpu(given: Option<Generation>, index: u8) -> u8
     requires given { IsGiven given }
     requires index { index < GUEST_VCPUS }
     ensures { result ≡ given_vcpu given index }
@@ -275,6 +276,13 @@ impl Line {
         ensures guest { IsGuest self.now.guest }
     {
         next_in(&self.way, &self.steps, self.made)
+    }
+
+    /// The name of the guest that it is about, or no bytes.
+    pub fn guest_name(&self) -> &[u8]
+        ensures { result.now ≡ guest_name self.now.asked }
+    {
+        guest_name(&self.asked)
     }
 
     fn name(&self, alloc: Global) -> Result<Bytes, AllocError>
