@@ -245,7 +245,7 @@ module _ (O : Origin) (s : State (machine O)) (h : ℕ) (known : Known O s) wher
     pin-can : (r : Reply) × (c : Carry) × Does O s h pin r c
     pin-can = pin-by (is_of g.birth (vcpu v)) refl
 
-  signal-can : (t : Step) → is_signal t ≡ true → (r : Reply) × (c : Carry) × Does O s h t r c
+  pub signal-can : (t : Step) → is_signal t ≡ true → (r : Reply) × (c : Carry) × Does O s h t r c
   signal-can (step.Sample x) signal = sample-can x.row x.parent x.source x.generation
   signal-can (step.Pin x) signal = pin-can x.row x.vcpu x.generation
   signal-can _ signal = absurd (cc)

@@ -10,3 +10,4 @@ pub mod Turns
 pub mod Exists
 pub mod Vcpus
 pub mod Orders
+pub mod Owing

@@ -2,19 +2,20 @@
 use Rattle.std.specs.Prelude.{◌≡◌, ℕ, suc, ◌<◌, Bool, false, List, [], ◌∷◌, Option, None, Some, Result, Ok}
 use Rattle.hv_dir.specs.Directory.{DirState, guest_at}
 use Rattle.hv_dir.specs.declared.refusal.DirRefusal.{DirRefusal}
-use Rattle.hv_event.specs.declared.event.ActorId.TheVariants.{Hart}
+use Rattle.hv_event.specs.declared.event.ActorId.TheVariants.{Hart, Terminal}
 use Rattle.hv_event.specs.declared.event.CellId.TheVariants as component
 use Rattle.hv_event.specs.declared.event.Event.{Event}
 use Rattle.hv_kinds.specs.declared.stage.Stage.{Stage}
 use Rattle.hv_kinds.specs.declared.state.State.TheVariants.{Running, Unknown}
 use Rattle.hv_machine.specs.Machine.{State, MayHappen, next_state}
-use Rattle.hv_model.specs.Cell.{Component}
+use Rattle.hv_model.specs.Cell.{Actor, Component}
 use Rattle.hv_model.specs.declared.entry.Entry.{Entry}
 use Rattle.hv_model.specs.Legal.{Leads, begun, start}
 use Rattle.hv_model.specs.Origin.{Origin}
 use Rattle.hv_model.specs.Report.{IsReport}
 use Rattle.hv_model.specs.Rounds.{IsRounds, has_ended}
 use Rattle.hv_model.specs.Rules.{machine}
+use Rattle.hv_model.specs.Terminal.{owes_nothing}
 use Rattle.hv_rules.specs.Hart.{slot_of}
 use Rattle.hv_step.specs.declared.step.Step.{Step}
 use Rattle.hv_step.specs.declared.step.Step.TheVariants as step
@@ -106,3 +107,10 @@ HartsAreInOrder =
     → e.event.actor ≡ Hart h → MayHappen (machine O) s e
     → IsInOrder (guests_of O s) e.event.step e.carry
     × IsVcpuInOrder (s (Component component.Dir)).value (λ v. (s (Component (component.Vcpu v))).value) e.event.step
+
+-- A terminal that owes interrupt steps has a next event.
+abbrev pub OwingTerminalHasANextEvent : Type 0
+OwingTerminalHasANextEvent =
+    (O : Origin) (s : State (machine O)) → IsReached O s → (t : ℕ)
+    → owes_nothing (s (Actor (Terminal t))).value.owed ≡ false
+    → (e : Entry) × (e.event.actor ≡ Terminal t) × MayHappen (machine O) s e

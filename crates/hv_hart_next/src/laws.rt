@@ -1,7 +1,8 @@
 //! Laws of the definitions, each the contract of a function that does nothing.
 ghost use Rattle.hv_hart_next.specs.Next.{ActorHasOneNextEvent, HartHasANextEvent, HartHasOneNextEvent};
 ghost use Rattle.hv_hart_next.specs.Next.{RoundsHaveOneHistory, RoundsHaveOneReport};
-ghost use Rattle.hv_hart_next.specs.Next.{HartsAreInOrder, RunningVcpusAreOfTheirGuests};
+ghost use Rattle.hv_hart_next.specs.Next.{HartsAreInOrder, OwingTerminalHasANextEvent};
+ghost use Rattle.hv_hart_next.specs.Next.{RunningVcpusAreOfTheirGuests};
 
 use hv_model::a_history_has_one_report;
 
@@ -39,4 +40,9 @@ pub fn a_hart_has_a_next_event()
 /// What a hart does is in order: these laws ask something of terminals alone.
 pub fn harts_are_in_order()
     ensures { HartsAreInOrder }
+{}
+
+/// A terminal owes interrupt steps alone, and one that owes a step has a next event.
+pub fn an_owing_terminal_has_a_next_event()
+    ensures { OwingTerminalHasANextEvent }
 {}
