@@ -59,7 +59,7 @@ RoundsHaveOneReport =
     → IsReport O H threads brief text → IsReport O K threads brief other → text ≡ other
 
 -- A slot is let go once no VCPU of it is there.
-abbrev pub LeavesNoVcpu : (vcpus : ℕ → VcpuValue) → (guest : Result (ℕ × ℕ) DirRefusal) → (next : Option Stage) → Type 0
+abbrev pub LeavesNoVcpu : (vcpus : ℕ → VcpuValue) → Result (ℕ × ℕ) DirRefusal → (next : Option Stage) → Type 0
 LeavesNoVcpu vcpus (Ok guest) None = (v : ℕ) → slot_of (suc v) ≡ guest.0 → (vcpus (suc v)).state ≡ Unknown
 LeavesNoVcpu vcpus guest next = Unit {0}
 

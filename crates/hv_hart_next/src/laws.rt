@@ -1,8 +1,8 @@
 //! Laws of the definitions, each the contract of a function that does nothing.
-ghost use Rattle.hv_hart_next.specs.Next.{ActorHasOneNextEvent, HartHasANextEvent, HartHasOneNextEvent};
+ghost use Rattle.hv_hart_next.specs.Next.{ActorHasOneNextEvent, HartHasOneNextEvent};
+ghost use Rattle.hv_hart_next.specs.Next.{HartHasANextEvent, OwingTerminalHasANextEvent};
+ghost use Rattle.hv_hart_next.specs.Next.{HartsAreInOrder, RunningVcpusAreOfTheirGuests};
 ghost use Rattle.hv_hart_next.specs.Next.{RoundsHaveOneHistory, RoundsHaveOneReport};
-ghost use Rattle.hv_hart_next.specs.Next.{HartsAreInOrder, OwingTerminalHasANextEvent};
-ghost use Rattle.hv_hart_next.specs.Next.{RunningVcpusAreOfTheirGuests};
 
 use hv_model::a_history_has_one_report;
 
