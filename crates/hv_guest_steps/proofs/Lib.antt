@@ -1,4 +1,10 @@
+pub mod Added
+pub mod Allowed
+pub mod Devices
+pub mod Entered
+pub mod Meetings
 pub mod Own
+pub mod Refusing
 pub mod Searches
 pub mod Seen
 pub mod Taken
