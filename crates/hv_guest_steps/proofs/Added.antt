@@ -10,13 +10,13 @@ use Rattle.hv_kinds.specs.declared.generation.Generation.{Generation}
 use Rattle.hv_refusal.specs.declared.refusal.Refusal.{Refusal}
 use Rattle.hv_region.specs.declared.plan.RegionPlan.{RegionPlan}
 use Rattle.hv_region.specs.declared.window.Window.{Window}
-use Rattle.hv_rules.specs.Body.{BodyValue, BodyAgrees, body_after, built, changes}
+use Rattle.hv_rules.specs.Body.{BodyValue, built, changes}
 use Rattle.hv_rules.specs.Carry.{Carry}
-use Rattle.hv_rules.specs.Shelf.{Gives, device_for, unless_stopped, without_device}
+use Rattle.hv_rules.specs.Shelf.{Gives, device_for, without_device}
 use Rattle.hv_rules.specs.Space.{AgreesToAdd, refusal_in, target_of, unless_refused, with_region}
 use Rattle.hv_rules.specs.Windows.{Region, region_of}
 use Rattle.hv_space.specs.Space.{SpaceState}
-use Rattle.hv_guest_steps.specs.Additions.{IsAdded, MayAdd, add_carry, device_got, not_added_carry, region_at}
+use Rattle.hv_guest_steps.specs.Additions.{IsAdded, MayAdd, add_carry, device_got, region_at}
 use Rattle.hv_guest_steps.specs.declared.row.GuestRow.{GuestRow}
 
 gives : (changed : SignalChanges) (d : Result (Option DevState) Refusal) (c : Carry) → IsOk d → c.device ≡ option_flatten (result_ok d)

@@ -1,5 +1,5 @@
 -- What the rules say of an addition, from its parts.
-use Rattle.std.proofs.Common.{◌≡◌, ◌≢◌, ℕ, ◌<◌, ◌==◌, List, [], ◌∷◌, length, get_or, Bool, true, false, cond, refl, sym, ap, subst, ◌∙◌, Option, Some, None}
+use Rattle.std.proofs.Common.{◌≡◌, ℕ, List, [], ◌∷◌, get_or, Bool, true, false, cond, refl, sym, subst, Option, Some, None}
 use Rattle.std.specs.Prelude.{◌||◌, filter, find, is_some, is_none, option_map, ok_or, MatchResult, Result, Ok, Err}
 use Rattle.std.specs.Bool.{then_some}
 use Rattle.std.specs.List.{list_any}
@@ -18,8 +18,8 @@ use Rattle.hv_region.specs.declared.plan.Form.{Form}
 use Rattle.hv_region.specs.declared.plan.Form.TheVariants.{Ram, Rom, Device, Real, Alias}
 use Rattle.hv_region.specs.declared.plan.RegionPlan.{RegionPlan}
 use Rattle.hv_region.specs.declared.window.Window.{Window}
-use Rattle.hv_rules.specs.Shelf.{device_for, unless_stopped}
-use Rattle.hv_rules.specs.Space.{is_of, lacks_target, least_row, refusal_in, target_at, target_of}
+use Rattle.hv_rules.specs.Shelf.{device_for}
+use Rattle.hv_rules.specs.Space.{is_of, lacks_target, least_row, refusal_in, target_of}
 use Rattle.hv_rules.specs.Windows.{Region, window_of}
 use Rattle.hv_guest_steps.specs.Additions.{LeadsTo, MayAdd, MayNotAdd}
 use Rattle.hv_guest_steps.specs.declared.row.NotAdded.{NotAdded}

@@ -1,6 +1,6 @@
 -- Devices that regions get.
-use Rattle.std.proofs.Common.{◌≡◌, ℕ, ◌<◌, List, length, Bool, true, false, refl, sym, ap, ◌∙◌, arith, Option, Some, None, slice_get}
-use Rattle.std.specs.Prelude.{is_some, remove, Result, Ok, Err, ok_or}
+use Rattle.std.proofs.Common.{◌≡◌, ℕ, ◌<◌, List, length, true, refl, sym, ap, ◌∙◌, arith, Option, Some, None, slice_get}
+use Rattle.std.specs.Prelude.{is_some, remove, Result, Ok, ok_or}
 use Rattle.std.specs.Option.{option_and_then, option_flatten, option_map, option_map_or}
 use Rattle.std.specs.Result.{IsOk, is_ok, result_ok}
 use Rattle.std.proofs.lemmas.Bool.{true≢false}

@@ -1,5 +1,5 @@
 -- Windows that come into a space.
-use Rattle.std.proofs.Common.{◌≡◌, ℕ, ◌+◌, ◌-◌, ◌≤◌, ◌^◌, List, [], ◌∷◌, Bool, true, false, ◌&&◌, cond, refl, sym, ap, subst, ◌∙◌, arith, tests, nat_le, Option, Some, None}
+use Rattle.std.proofs.Common.{◌≡◌, ℕ, ◌+◌, ◌-◌, ◌≤◌, List, [], ◌∷◌, Bool, true, false, ◌&&◌, cond, refl, subst, arith, nat_le, Option, Some, None}
 use Rattle.std.specs.Prelude.{Result, Ok, Err, find, filter, option_map}
 use Rattle.std.specs.List.{All}
 use Rattle.std.proofs.lemmas.Bool.Decides.{nat_tests}
@@ -10,7 +10,6 @@ use Rattle.hv_body.proofs.WindowLemmas.{all_put}
 use Rattle.hv_kinds.specs.declared.address.AddressType.{AddressType}
 use Rattle.hv_kinds.specs.declared.address.AddressType.TheVariants.{Memory, Io}
 use Rattle.hv_region.specs.Addresses.{end_of}
-use Rattle.hv_region.specs.Plans.{IsRegionPlan}
 use Rattle.hv_region.specs.Windows.{Adds, AreWindows, IsWindow}
 use Rattle.hv_region.specs.declared.plan.Form.{Form}
 use Rattle.hv_region.specs.declared.plan.Form.TheVariants.{Ram, Rom, Device, Real, Alias}
@@ -18,7 +17,7 @@ use Rattle.hv_region.specs.declared.plan.RegionPlan.{RegionPlan}
 use Rattle.hv_region.specs.declared.window.Window.{Window}
 use Rattle.hv_region.specs.declared.window.RegionRefusal.{RegionRefusal}
 use Rattle.hv_region.specs.declared.window.RegionRefusal.TheVariants.{Overlap, OutOfRange, AliasTarget}
-use Rattle.hv_rules.specs.Space.{is_own, least_row, target_at, target_of}
+use Rattle.hv_rules.specs.Space.{is_own, least_row, target_of}
 use Rattle.hv_rules.specs.Windows.{Region, has_range, window_of}
 use Rattle.hv_rules.proofs.MeetingLemmas.{met_is, put_is}
 use Rattle.hv_rules.proofs.WindowLemmas.{and_left, and_right}

@@ -1,5 +1,5 @@
 -- The least row whose window is met, one window after the other.
-use Rattle.std.proofs.Common.{◌≡◌, ℕ, ◌+◌, List, [], ◌∷◌, Bool, true, false, cond, drop, refl, sym, ap, ◌∙◌, arith, subst, Option, Some, None, slice_get}
+use Rattle.std.proofs.Common.{◌≡◌, ℕ, ◌+◌, List, ◌∷◌, Bool, true, false, cond, drop, refl, sym, ap, ◌∙◌, arith, subst, Option, Some, None, slice_get}
 use Rattle.std.specs.Prelude.{filter}
 use Rattle.std.proofs.lemmas.Option.{slice_get_within, get_or_from_slice_get}
 use Rattle.hv_region.specs.Windows.{AreWindows, IsWindow}

@@ -1,7 +1,6 @@
 -- Components that are asked for an addition that is refused.
-use Rattle.std.proofs.Common.{◌≡◌, ℕ, ◌∙◌, ap, sym, subst, refl, List, Option, Some, None}
-use Rattle.std.specs.Prelude.{Result, Ok, Err, IsSomeAnd}
-use Rattle.hv_answer.specs.declared.reply.Reply.{Reply}
+use Rattle.std.proofs.Common.{◌≡◌, ◌∙◌, ap, sym, subst, refl, List, Option, Some, None}
+use Rattle.std.specs.Prelude.{Result, Err, IsSomeAnd}
 use Rattle.hv_answer.specs.declared.reply.Reply.TheVariants as reply
 use Rattle.hv_emu.specs.Device.{DevState}
 use Rattle.hv_handed.specs.Takes.{ShelfTakes, SpaceTakes}

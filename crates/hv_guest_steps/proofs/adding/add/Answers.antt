@@ -1,5 +1,4 @@
-use Rattle.std.proofs.Common.{sym, subst, None}
-use Rattle.std.specs.Prelude.{filter}
+use Rattle.std.proofs.Common.{sym, subst}
 use Rattle.hv_body.specs.Body.{seen}
 use Rattle.hv_space.specs.Space.{SpaceState}
 use Rattle.hv_guest_steps.specs.Additions.{region_at}
