@@ -2,3 +2,8 @@
 pub mod HeldLemmas
 pub mod DoneLemmas
 pub mod PlaceLemmas
+pub mod KindLemmas
+pub mod TouchLemmas
+pub mod EventLemmas
+pub mod StayLemmas
+pub mod LiftLemmas

@@ -3,3 +3,7 @@ pub mod Places
 pub mod Held
 pub mod Done
 pub mod Carrying
+pub mod Board
+pub mod Holds
+pub mod Lifted
+pub mod Logged

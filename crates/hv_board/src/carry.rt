@@ -30,6 +30,7 @@ pub fn lift_all<E>(
     ensures out { AreOut places.now result.0.items cells.old cells.new }
     ensures from { AreFrom places.now result.0.items cells.old }
     ensures top { result.1 ≡ max stamp (greatest (map (stamp_in cells.old) places.now)) }
+    ensures capacity { vec_capacity result.0 ≡ vec_capacity parts }
 {
     let mut top = stamp;
     for j in 0..places.len() {
@@ -50,19 +51,22 @@ fn put<E: Drop>(cell: &mut Cell<E>, part: Part<E>, stamp: Option<u64>)
     }
 }
 
-/// Puts parts back at these places, with a new stamp where one is given.
+/// Puts parts back at these places, with a new stamp where one is given, and gives their room back.
 pub fn put_all<E: Drop>(
     cells: &mut [Cell<E>],
     places: &[usize],
     mut parts: Vec<Part<E>>,
     stamp: Option<u64>,
-)
+) -> Vec<Part<E>>
     requires long { length parts.items ≡ length places.now }
     requires places { IsRising places.now × All (λ k. k < length cells.old) places.now }
-    ensures { ArePut stamp places.now parts.items cells.old cells.new }
+    ensures put { ArePut stamp places.now parts.items cells.old cells.new }
+    ensures empty { result.items ≡ [] }
+    ensures room { vec_capacity result ≡ vec_capacity parts }
 {
     while let Some(part) = parts.pop() {
         let place = places[parts.len()];
         put(&mut cells[place], part, stamp);
     }
+    parts
 }

@@ -4,12 +4,24 @@
 //! where it stands among the cells, in the order of locks.
 #![tactic(auto)]
 
+mod board;
 mod carry;
 mod cell;
+mod event;
 mod layout;
+mod lifted;
+mod log;
+mod logging;
+mod places;
+mod read;
+mod stop;
 #[cfg(test)]
 mod tests;
 
+pub use board::Board;
 pub use carry::{lift_all, put_all};
 pub use cell::Cell;
 pub use layout::Layout;
+pub use lifted::Lifted;
+pub use log::Log;
+pub use stop::Stop;

@@ -44,6 +44,7 @@ loop-j-preserved g c =
     record {
       long = ap length items ∙ (length_push l.parts.items v ∙ ap (λ n. n + 1) l.invariant.long);
       room = omega (arith, c.push_reserved.ensures.capacity, l.invariant.room);
+      capacity = c.push_reserved.ensures.capacity ∙ l.invariant.capacity;
       out = subst Out both (done-push out_of (take l.j places) l.parts.items old l.cells p v c.lift.new.cell l.invariant.out long below b (λ d. c.lift.ensures.cell ∙ ap (λ x. out_of x (Some v)) (was d)));
       from = subst From both (λ k d x at. each-push (P d) (take l.j places) l.parts.items p v (λ k x at. l.invariant.from k d x at) long below (part d) k x at);
       top =

@@ -5,7 +5,7 @@ use Rattle.hv_board.proofs.DoneLemmas.{done-last, done-last_before}
 use Rattle.hv_board.proofs.carry.put_all.Goals as goal
 
 pub loop-part-init : goal.loop-part-init
-loop-part-init g c = ([], sym (append-nil c.args.parts.items), (refl, λ k d b. rw (drop_all (vec_len c.args.parts) c.args.places.now (omega (arith, c.requires.long, c.args.parts.ok.0))) refl))
+loop-part-init g c = ([], sym (append-nil c.args.parts.items), (refl, λ k d b. rw (drop_all (vec_len c.args.parts) c.args.places.now (omega (arith, c.requires.long, c.args.parts.ok.0))) refl), refl)
 
 pub loop-part-preserved : goal.loop-part-preserved
 loop-part-preserved g c =
@@ -27,4 +27,4 @@ loop-part-preserved g c =
     let was = λ (d : _). done-last_before (put_into c.args.stamp) places gone old l.cells n r d (λ a. refl) c.requires.places.0 low w b in
     let put : ArePut c.args.stamp (drop n places) (v ∷ gone) old (slice_set l.cells p c.put.new.cell) =
     done-last (put_into c.args.stamp) places gone old l.cells n v c.put.new.cell low w b (λ d. c.put.ensures ∙ ap (λ x. put_into c.args.stamp x (Some v)) (was d)) in
-    (v ∷ gone, whole, subst (λ m. ArePut c.args.stamp (drop m places) (v ∷ gone) old (slice_set l.cells p c.put.new.cell)) c.len.ensures put)
+    (v ∷ gone, whole, subst (λ m. ArePut c.args.stamp (drop m places) (v ∷ gone) old (slice_set l.cells p c.put.new.cell)) c.len.ensures put, c.pop.ensures.capacity ∙ l.invariant.3)
