@@ -7,3 +7,4 @@ pub mod TouchLemmas
 pub mod EventLemmas
 pub mod StayLemmas
 pub mod LiftLemmas
+pub mod StartLemmas

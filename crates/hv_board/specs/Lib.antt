@@ -7,3 +7,4 @@ pub mod Board
 pub mod Holds
 pub mod Lifted
 pub mod Logged
+pub mod Started

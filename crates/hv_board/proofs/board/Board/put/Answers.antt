@@ -26,7 +26,7 @@ returns-clause-whole g c =
     let enough : count_of c.put_parts.new.self.layout ≤ vec_capacity c.put_parts.new.self.room = omega (arith, same, c.put_parts.ensures.room, c.requires.lifted.room) in
     let places : count_of c.put_parts.new.self.layout ≤ vec_capacity c.put_parts.new.self.places = omega (arith, same, ap vec_capacity c.put_parts.ensures.places, c.requires.lifted.room_places) in
     put-whole g.E.Emulator.state c.args.by c.args.xs.now c.args.step.now c.args.made.now c.args.lifted c.args.self.now c.put_parts.new.self c.requires.lifted c.requires.made c.put_parts.ensures.put c.put_parts.ensures.layout
-    (record { parts = c.put_parts.ensures.empty; enough = enough; places = places; })
+    (record { parts = c.put_parts.ensures.empty; enough = enough; places = places })
 
 pub returns-clause-event : goal.returns-clause-event
 returns-clause-event g c =

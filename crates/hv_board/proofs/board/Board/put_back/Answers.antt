@@ -17,7 +17,7 @@ returns-clause-whole g c =
     let enough : count_of new.layout ≤ vec_capacity new.room = omega (arith, same, c.put_parts.ensures.room, c.requires.lifted.room) in
     let places : count_of new.layout ≤ vec_capacity new.places = omega (arith, same, ap vec_capacity c.put_parts.ensures.places, c.requires.lifted.room_places) in
     back-whole g.E.Emulator.state c.args.xs.now c.args.lifted old c.requires.lifted new (c.put_parts.ensures.layout ∙ c.requires.lifted.layout) cells
-    (record { parts = c.put_parts.ensures.empty; enough = enough; places = places; })
+    (record { parts = c.put_parts.ensures.empty; enough = enough; places = places })
 
 pub returns-clause-cells : goal.returns-clause-cells
 returns-clause-cells g c =
