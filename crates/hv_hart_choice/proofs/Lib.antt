@@ -1,0 +1,2 @@
+-- What the proofs of choices share.
+pub mod Heads

@@ -1,0 +1,2 @@
+-- Which steps of harts their components allow.
+pub mod Choice
