@@ -1,0 +1,5 @@
+-- Lemmas of components that stand in one list.
+pub mod Lists
+pub mod Told
+pub mod Directories
+pub mod FilesSteps

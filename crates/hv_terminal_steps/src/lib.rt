@@ -1,0 +1,11 @@
+//! The steps of terminals at the components that they touch, which stand in one list.
+//!
+//! Terms: parts are components of any kind, in the order in which a step locks them; a step by guest
+//! begins at the directory, which admits it where the guest is there at the stage that the step
+//! needs; a home is the queue to which a VCPU goes that becomes ready; the components of a case are
+//! those that a step touches there.
+#![tactic(auto)]
+
+mod files;
+
+pub use files::files_at;
