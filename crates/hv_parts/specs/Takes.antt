@@ -45,6 +45,6 @@ AllTake by xs s r c olds news = ⊥
 pub record IsMadeAt {E : Type 0} (state : E → DevState) (harts : ℕ) (by : ActorId) (xs : List CellId) (s : Step) (made : Made E) (old new : List (Part E)) : Type 0 where
   pub touched : components harts by s made.reply (given state made.handed.value) ≡ xs
   pub taken :
-    AllTake by xs s made.reply (given state made.handed.value) (map (valued state) old) (map (valued state) new)
+      AllTake by xs s made.reply (given state made.handed.value) (map (valued state) old) (map (valued state) new)
   pub alone : handed_over s (given state made.handed.value) ≡ given state made.handed.value
   pub told : IsTold (given state made.handed.value) made.told
