@@ -6,6 +6,16 @@
 //! those that a step touches there.
 #![tactic(auto)]
 
+mod arrivals;
+mod departures;
 mod files;
+mod places;
+mod queues;
+#[cfg(test)]
+mod tests;
+mod vcpus;
 
+pub use arrivals::{kick_at, resume_at};
+pub use departures::{halt_at, pause_at, reset_at, vdrop_at};
 pub use files::files_at;
+pub use vcpus::{look_at, vadd_at};
