@@ -9,7 +9,7 @@ use Rattle.hv_rules.specs.Owed.{has_changed, pin_step}
 use Rattle.hv_programs.specs.Owed.{pin_at}
 
 -- the numbers from one on, with the last one by itself
-range-more : (a n : ℕ) → range_with_len a (suc n) ≡ range_with_len a n ++ (a + n) ∷ []
+pub range-more : (a n : ℕ) → range_with_len a (suc n) ≡ range_with_len a n ++ (a + n) ∷ []
 range-more a zero = ap (λ k. k ∷ []) (omega arith)
 range-more a (suc n) =
     ap (λ rest. a ∷ rest) (range-more (a + 1) n ∙ ap (λ k. range_with_len (a + 1) n ++ k ∷ []) (omega arith))

@@ -1,0 +1,2 @@
+-- What a call appends to a transcript.
+pub mod Appends
