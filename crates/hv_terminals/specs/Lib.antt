@@ -1,0 +1,5 @@
+-- A terminal's program in code.
+pub mod Plans
+pub mod Scripts
+pub mod Due
+pub mod Answer

@@ -1,0 +1,159 @@
+//! A guest's plan, a short script and a step that is due, with ample memory.
+ghost use Rattle.std.specs.Prelude.{◌≡◌, length, IfOk};
+
+use super::*;
+use hv_answer::Reply;
+use hv_kinds::{AddressType, Generation};
+use hv_refusal::Refusal;
+use hv_region::{Form, GuestPlan, RegionPlan, VcpuPlan};
+use hv_step::{ByGuest, Kick, Step};
+use hv_text::{Bytes, Items};
+use std::alloc::{AllocError, Global};
+use std::test::Fail;
+
+const GUEST: Generation = Generation { slot: 1, birth: 7 };
+
+fn text_of(alloc: Global, text: &[u8]) -> Result<Bytes, AllocError> {
+    Ok(Bytes::from_vec(Vec::from_slice(alloc, text)?))
+}
+
+// The plan of a guest g with one VCPU and one region.
+fn small_plan(alloc: Global) -> Result<GuestPlan, AllocError>
+    ensures vcpus { IfOk result (λ plan. length plan.vcpus.items ≡ 1) }
+    ensures regions { IfOk result (λ plan. length plan.regions.items ≡ 1) }
+{
+    let mut vcpus = Vec::new(alloc);
+    vcpus.push(VcpuPlan {
+        start: 0x8000_0000,
+        priority: 1,
+        slice: 4,
+    })?;
+    let mut regions = Vec::new(alloc);
+    regions.push(RegionPlan {
+        name: text_of(alloc, b"ram")?,
+        kind: AddressType::Memory,
+        base: 0x8000_0000,
+        size: 0x1000,
+        form: Form::Ram,
+        detached: false,
+        clock: false,
+        parent: None,
+    })?;
+    Ok(GuestPlan {
+        name: text_of(alloc, b"g")?,
+        vcpus,
+        regions,
+    })
+}
+
+fn small_plans(alloc: Global) -> Result<Plans, AllocError> {
+    let mut guests = Items::new(alloc);
+    guests.push(Ok(small_plan(alloc)?))?;
+    Ok(Plans::new(guests))
+}
+
+#[test]
+fn finds_a_guest_by_its_name(rt: HostRuntime) -> Result<(), Fail> {
+    let plans = small_plans(rt.alloc())?;
+    assert!(rt; plans.planned(b"g").is_some());
+    assert!(rt; plans.plan_of(b"g").is_some());
+    assert!(rt; plans.plan_of(b"h").is_none());
+    assert!(rt; plans.refusal_for(b"g").is_none());
+    assert!(rt; plans.regions_of(b"g").len() == 1);
+    assert!(rt; plans.vcpus_of(b"g").len() == 1);
+    Ok(())
+}
+
+#[test]
+fn finds_a_region_by_its_name(rt: HostRuntime) -> Result<(), Fail> {
+    let plans = small_plans(rt.alloc())?;
+    assert!(rt; plans.row_of(b"g", b"ram") == Some(0));
+    assert!(rt; plans.row_of(b"g", b"rom").is_none());
+    let region = plans.region_of(b"g", b"ram");
+    assert!(rt; matches!(region, Some((_, 1))));
+    let vcpu = plans.vcpu_given(b"g", 5);
+    assert!(rt; matches!(vcpu, Some((0, VcpuPlan { priority: 1, .. }))));
+    assert!(rt; index_of(6) == 1);
+    Ok(())
+}
+
+#[test]
+fn tells_that_a_plan_is_missing(rt: HostRuntime) -> Result<(), Fail> {
+    let why = Unplanned::NoGuest.refusal()?;
+    let missing = matches!(&why, Refusal::NoGuest);
+    drop(why);
+    assert!(rt; missing);
+    Ok(())
+}
+
+#[test]
+fn refuses_a_script_that_is_too_long(rt: HostRuntime) -> Result<(), Fail> {
+    let script = text_of(rt.alloc(), b"one\ntwo\n")?;
+    let answer = answer_run(Ok(script), Some(1));
+    let too_long = matches!(&answer.reply, Err(Refusal::TooLong));
+    let lines = answer.lines;
+    drop(answer);
+    assert!(rt; too_long);
+    assert!(rt; lines == Some(2));
+    assert!(rt; room_for(3, 10) == Some(9_990));
+    assert!(rt; room_for(4, 10).is_none());
+    Ok(())
+}
+
+#[test]
+fn reads_a_script_command_by_command(rt: HostRuntime) -> Result<(), Fail> {
+    let reply = Reply::Run(Ok(text_of(rt.alloc(), b"# first\nterm rest 2\n\n")?));
+    let run = OpenScript::of_reply(rt.alloc(), &reply)?;
+    drop(reply);
+    let Some(mut script) = run else {
+        return Err(Fail::from("a run opens a script"));
+    };
+    assert!(rt; script.line() == Some(b"term rest 2"));
+    assert!(rt; script.skip());
+    assert!(rt; script.line().is_none());
+    assert!(rt; !script.skip());
+    Ok(())
+}
+
+// To kick the second VCPU of the guest g.
+fn due_kick<'a>(alloc: Global) -> Result<Due<'a>, AllocError>
+    ensures { IfOk result (λ due. due.index ≡ 1) }
+{
+    let guest = ByGuest {
+        name: text_of(alloc, b"g")?,
+        generation: None,
+    };
+    let kick = Kick {
+        vcpu: 0,
+        guest: Some(guest),
+    };
+    Ok(Due {
+        step: Step::Kick(kick),
+        index: 1,
+        reply: None,
+        hands: Hands {
+            stopped: None,
+            row: None,
+            plan: None,
+            vcpu: None,
+            room: None,
+        },
+    })
+}
+
+fn kicked(due: &Due<'_>) -> Option<u8> {
+    match &due.step {
+        Step::Kick(kick) => Some(kick.vcpu),
+        _ => None,
+    }
+}
+
+#[test]
+fn shows_the_vcpu_of_a_guest(rt: HostRuntime) -> Result<(), Fail> {
+    let mut due = due_kick(rt.alloc())?;
+    due.show(Some(GUEST));
+    let vcpu = kicked(&due);
+    drop(due);
+    assert!(rt; vcpu == Some(6));
+    Ok(())
+}
