@@ -8,6 +8,7 @@ use hv_programs::{Asked, Change};
 use hv_refusal::Refusal;
 use hv_step::{Regions, Step};
 use hv_text::Bytes;
+use std::alloc::{AllocError, Global};
 use std::test::Fail;
 
 #[test]
@@ -50,25 +51,34 @@ fn shows_ends(rt: HostRuntime) -> Result<(), Fail> {
     Ok(())
 }
 
-#[test]
-fn shows_steps_and_states(rt: HostRuntime) -> Result<(), Fail> {
-    let alloc = rt.alloc();
-    let mut to = Bytes::from_vec(Vec::new(alloc));
+// Shows that the regions of a guest aren't listed.
+fn show_no_regions(alloc: Global, to: &mut Bytes) -> Result<(), AllocError> {
     let name = Bytes::from_vec(Vec::new(alloc));
     let step = Step::Regions(Regions {
         name,
         generation: None,
     });
-    show_step(
-        alloc,
-        &mut to,
-        &[],
-        &step,
-        &Reply::Regions(Err(Refusal::NoSuchGuest)),
-    )?;
+    let reply = Reply::Regions(Err(Refusal::NoSuchGuest));
+    let shown = show_step(alloc, to, &[], &step, &reply);
+    shown
+}
+
+#[test]
+fn shows_a_step(rt: HostRuntime) -> Result<(), Fail> {
+    let alloc = rt.alloc();
+    let mut to = Bytes::from_vec(Vec::new(alloc));
+    show_no_regions(alloc, &mut to)?;
+    assert!(rt; to.as_slice() == b"< refused NoSuchGuest\n".as_slice());
+    Ok(())
+}
+
+#[test]
+fn shows_states(rt: HostRuntime) -> Result<(), Fail> {
+    let alloc = rt.alloc();
+    let mut to = Bytes::from_vec(Vec::new(alloc));
     show_state(alloc, &mut to, 5, State::Running(1))?;
     show_state(alloc, &mut to, 6, State::Unknown)?;
-    assert!(rt; to.as_slice() == b"< refused NoSuchGuest\n5 Running1\n".as_slice());
+    assert!(rt; to.as_slice() == b"5 Running1\n".as_slice());
     Ok(())
 }
 
