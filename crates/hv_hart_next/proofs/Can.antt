@@ -28,7 +28,7 @@ use Rattle.hv_kinds.specs.declared.access.Direction.TheVariants.{Read, Write}
 use Rattle.hv_kinds.specs.declared.changes.SignalChanges.{SignalChanges}
 use Rattle.hv_kinds.specs.declared.generation.Generation.{Generation}
 use Rattle.hv_kinds.specs.declared.pins.Pins.{Pins}
-use Rattle.hv_laws.proofs.Rows.{is_signal}
+use Rattle.hv_rules.proofs.Slices.{is_signal}
 use Rattle.hv_machine.specs.Machine.{State}
 use Rattle.hv_model.specs.Cell.{Cell, Component}
 use Rattle.hv_model.specs.Origin.{Origin}

@@ -10,7 +10,7 @@ use Rattle.hv_kinds.specs.declared.generation.Generation.{Generation}
 use Rattle.hv_laws.specs.Laws.{current_of}
 use Rattle.hv_laws.specs.Legal.{board_of}
 use Rattle.hv_laws.proofs.Frame.{true-false}
-use Rattle.hv_laws.proofs.Rows.{first-signal, is_signal}
+use Rattle.hv_rules.proofs.Slices.{first-signal, is_signal}
 use Rattle.hv_laws.proofs.States.{runs-here}
 use Rattle.hv_machine.specs.Machine.{MayHappen, State, greatest}
 use Rattle.hv_model.specs.Cell.{Component, Actor}

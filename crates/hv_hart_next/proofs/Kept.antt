@@ -18,7 +18,8 @@ use Rattle.hv_laws.specs.Board.{Board, Changes, IsStep, Made, is_vcpu}
 use Rattle.hv_laws.specs.Run.{IsReached, IsStart}
 use Rattle.hv_laws.proofs.Current.{Currents, currents-kept, hart-step}
 use Rattle.hv_laws.proofs.Frame.{or-true}
-use Rattle.hv_laws.proofs.Rows.{harts-same, is_signal}
+use Rattle.hv_laws.proofs.Rows.{harts-same}
+use Rattle.hv_rules.proofs.Slices.{is_signal}
 use Rattle.hv_laws.proofs.Runs.{reached-keeps}
 use Rattle.hv_laws.proofs.Steps.{vcpu-touched}
 use Rattle.hv_rules.specs.Carry.{Carry, Pending, load, store}

@@ -5,7 +5,7 @@ use Rattle.hv_laws.specs.Board.{is_hart}
 use Rattle.hv_laws.specs.Legal.{board_of}
 use Rattle.hv_laws.proofs.Frame.{touched}
 use Rattle.hv_laws.proofs.Legal.{step-of}
-use Rattle.hv_laws.proofs.Rows.{is_signal}
+use Rattle.hv_rules.proofs.Slices.{is_signal}
 use Rattle.hv_dir.specs.Directory.{DirState}
 use Rattle.hv_machine.specs.Machine.{MayHappen, State, next_state}
 use Rattle.hv_model.specs.Cell.{Actor}

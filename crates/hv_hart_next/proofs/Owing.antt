@@ -13,7 +13,7 @@ use Rattle.hv_kinds.specs.declared.stage.Stage.{Stage}
 use Rattle.hv_kinds.specs.declared.stage.Stage.TheVariants.{Making, Made, Ending}
 use Rattle.hv_laws.proofs.Frame.{after-step}
 use Rattle.hv_laws.proofs.Legal.{cell-becomes, ended-or}
-use Rattle.hv_laws.proofs.Rows.{first-signal, is_signal}
+use Rattle.hv_rules.proofs.Slices.{first-signal, is_signal}
 use Rattle.hv_machine.specs.Machine.{MayHappen, State, greatest, next_state, state_after, touches}
 use Rattle.hv_machine.specs.Machine.{IsRun as IsMachineRun}
 use Rattle.hv_model.specs.Cell.{Actor, Cell, Component}

@@ -14,13 +14,15 @@ use Rattle.hv_kinds.specs.declared.generation.Generation.{Generation}
 use Rattle.hv_kinds.specs.declared.state.State.{State}
 use Rattle.hv_kinds.specs.declared.state.State.TheVariants.{Ready, Running}
 use Rattle.hv_laws.specs.Board.{Board, Changes, IsStep, Made, is_hart, is_vcpu}
-use Rattle.hv_laws.specs.Laws.{IsWithinItsSlice, current_of}
+use Rattle.hv_laws.specs.Laws.{current_of}
+use Rattle.hv_rules.specs.Hart.{IsWithinItsSlice}
 use Rattle.hv_laws.specs.Run.{IsReached, IsStart}
 use Rattle.hv_laws.proofs.Current.{hart-step}
 use Rattle.hv_laws.proofs.Frame.{false-true, or-true, true-false}
-use Rattle.hv_laws.proofs.Rows.{Asks, asked, is_signal, used-same}
+use Rattle.hv_laws.proofs.Rows.{Asks, asked, used-same}
+use Rattle.hv_rules.proofs.Slices.{is_signal}
 use Rattle.hv_laws.proofs.Runs.{reached-keeps}
-use Rattle.hv_laws.proofs.Slices.{within-kept}
+use Rattle.hv_rules.proofs.Slices.{within-kept}
 use Rattle.hv_laws.proofs.States.{access-same, added-running, dispatch-running, fetched-running, move-running, take-same, woken-running}
 use Rattle.hv_laws.proofs.Steps.{vcpu-step, vcpu-touched}
 use Rattle.hv_region.specs.declared.plan.VcpuPlan.{VcpuPlan}

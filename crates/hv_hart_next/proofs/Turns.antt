@@ -10,11 +10,11 @@ use Rattle.hv_event.specs.declared.event.ActorId.TheVariants.{Hart}
 use Rattle.hv_kinds.specs.declared.access.AccessKind.{AccessKind}
 use Rattle.hv_kinds.specs.declared.access.AccessKind.TheVariants as access
 use Rattle.hv_kinds.specs.declared.generation.Generation.{Generation}
-use Rattle.hv_laws.specs.Laws.{IsWithinItsSlice}
+use Rattle.hv_rules.specs.Hart.{IsWithinItsSlice}
 use Rattle.hv_laws.specs.Legal.{board_of}
 use Rattle.hv_laws.proofs.Frame.{after-step, false-true, true-false}
 use Rattle.hv_laws.proofs.Legal.{cell-becomes, ended-or}
-use Rattle.hv_laws.proofs.Rows.{first-signal, is_signal}
+use Rattle.hv_rules.proofs.Slices.{first-signal, is_signal}
 use Rattle.hv_laws.proofs.Runs.{harts-are-within}
 use Rattle.hv_machine.specs.Machine.{MayHappen, State, next_state, state_after, touches}
 use Rattle.hv_machine.specs.Machine.{IsRun as IsMachineRun}

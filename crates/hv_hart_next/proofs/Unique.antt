@@ -14,7 +14,7 @@ use Rattle.hv_kinds.specs.declared.access.AccessKind.TheVariants as access
 use Rattle.hv_kinds.specs.declared.generation.Generation.{Generation}
 use Rattle.hv_laws.specs.Legal.{board_of}
 use Rattle.hv_laws.proofs.Frame.{true-false}
-use Rattle.hv_laws.proofs.Rows.{is_signal, first-signal}
+use Rattle.hv_rules.proofs.Slices.{first-signal, is_signal}
 use Rattle.hv_machine.specs.Machine.{State, MayHappen, greatest}
 use Rattle.hv_model.specs.Cell.{Component, Actor}
 use Rattle.hv_model.specs.declared.entry.Entry.{Entry}
