@@ -1,0 +1,3 @@
+pub mod FetchLemmas
+pub mod AccessLemmas
+pub mod RangeLemmas

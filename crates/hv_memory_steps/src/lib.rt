@@ -1,0 +1,23 @@
+//! What steps do that reach the memory of guests: fetches, accesses, looks at memory and files that
+//! are loaded.
+//!
+//! Terms: a pending access is the load or the store that an instruction leaves to be made; the body
+//! of a region is its contents while it is live; a shared region shows a part of an area of the
+//! host, and a step that reaches it is made there, by a function of its own; what is handed over
+//! goes from one component to another, for contracts alone.
+#![tactic(auto)]
+
+mod accesses;
+mod fetches;
+mod hands;
+mod loads;
+mod looks;
+mod places;
+mod ranges;
+
+pub use accesses::{access, access_shared, access_step, area_accessed};
+pub use fetches::{area_fetched, fetch, fetch_shared};
+pub use loads::{load, load_missing, load_nowhere, load_shared};
+pub use looks::mem_nowhere;
+pub use places::reaches;
+pub use ranges::area_shown;
