@@ -1,5 +1,4 @@
-//! What steps do that reach the memory of guests: fetches, accesses, looks at memory and files that
-//! are loaded.
+//! What steps do that reach the memory of guests: fetches, accesses and files that are loaded.
 //!
 //! Terms: a pending access is the load or the store that an instruction leaves to be made; the body
 //! of a region is its contents while it is live; a shared region shows a part of an area of the
