@@ -3,3 +3,4 @@ pub mod Plans
 pub mod Scripts
 pub mod Due
 pub mod Answer
+pub mod Work

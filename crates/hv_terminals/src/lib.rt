@@ -1,5 +1,5 @@
-//! A terminal's program: the plans of guests that it goes by, its open scripts, and how its next
-//! step shows what the directory gives.
+//! A terminal's program: the plans of guests that it goes by, its open scripts, what a command asks
+//! for, and how its next step shows what the directory gives.
 //!
 //! Terms: a command is a line of a script; a plan says what a guest of the host tree is made of; a
 //! step that is due is asked for, and a step by guest shows a generation once the directory gives it.
@@ -11,8 +11,10 @@ mod plans;
 mod script;
 #[cfg(test)]
 mod tests;
+mod work;
 
 pub use answer::{RunAnswer, answer_run};
 pub use due::{Due, Hands, room_for};
 pub use plans::{Plans, Unplanned, index_of};
 pub use script::OpenScript;
+pub use work::{Work, work_of};

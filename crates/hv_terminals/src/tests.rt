@@ -4,10 +4,12 @@ ghost use Rattle.std.specs.Prelude.{◌≡◌, length, IfOk};
 use super::*;
 use hv_answer::Reply;
 use hv_kinds::{AddressType, Generation};
+use hv_programs::Asked;
 use hv_refusal::Refusal;
 use hv_region::{Form, GuestPlan, RegionPlan, VcpuPlan};
 use hv_step::{ByGuest, Kick, Step};
 use hv_text::{Bytes, Items};
+use hv_words::Command;
 use std::alloc::{AllocError, Global};
 use std::test::Fail;
 
@@ -155,5 +157,14 @@ fn shows_the_vcpu_of_a_guest(rt: HostRuntime) -> Result<(), Fail> {
     let vcpu = kicked(&due);
     drop(due);
     assert!(rt; vcpu == Some(6));
+    Ok(())
+}
+
+#[test]
+fn asks_for_a_line_of_rests(rt: HostRuntime) -> Result<(), Fail> {
+    let work = work_of(Command::TermRest(10_000));
+    let rests = matches!(&work, Work::Several(Asked::Rests(10_000)));
+    drop(work);
+    assert!(rt; rests);
     Ok(())
 }
