@@ -9,6 +9,7 @@ mod answer;
 mod due;
 mod plans;
 mod script;
+mod stack;
 #[cfg(test)]
 mod tests;
 mod work;
@@ -17,4 +18,5 @@ pub use answer::{RunAnswer, answer_run};
 pub use due::{Due, Hands, room_for};
 pub use plans::{Plans, Unplanned, index_of};
 pub use script::OpenScript;
+pub use stack::Stack;
 pub use work::{Work, work_of};

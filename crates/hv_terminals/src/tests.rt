@@ -168,3 +168,16 @@ fn asks_for_a_line_of_rests(rt: HostRuntime) -> Result<(), Fail> {
     assert!(rt; rests);
     Ok(())
 }
+
+#[test]
+fn closes_a_script_that_is_over(rt: HostRuntime) -> Result<(), Fail> {
+    let mut stack = Stack::new(rt.alloc());
+    assert!(rt; stack.is_empty());
+    stack.make_room()?;
+    stack.open(OpenScript::new(text_of(rt.alloc(), b"one\n")?));
+    assert!(rt; stack.line() == Some(b"one"));
+    assert!(rt; stack.depth() == 1);
+    assert!(rt; stack.skip());
+    assert!(rt; !stack.skip());
+    Ok(())
+}
