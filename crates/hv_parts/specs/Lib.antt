@@ -2,3 +2,4 @@
 pub mod Value
 pub mod Kinds
 pub mod Takes
+pub mod Admission

@@ -48,3 +48,11 @@ pub record IsMadeAt {E : Type 0} (state : E → DevState) (harts : ℕ) (by : Ac
       AllTake by xs s made.reply (given state made.handed.value) (map (valued state) old) (map (valued state) new)
   pub alone : handed_over s (given state made.handed.value) ≡ given state made.handed.value
   pub told : IsTold (given state made.handed.value) made.told
+
+-- A step of any actor was made at these components, which are some of those that it touches.
+pub record IsTakenAt {E : Type 0} (state : E → DevState) (xs : List CellId) (s : Step) (made : Made E) (old new : List (Part E)) : Type 0 where
+  pub taken :
+      (by : ActorId)
+      → AllTake by xs s made.reply (given state made.handed.value) (map (valued state) old) (map (valued state) new)
+  pub alone : handed_over s (given state made.handed.value) ≡ given state made.handed.value
+  pub told : IsTold (given state made.handed.value) made.told

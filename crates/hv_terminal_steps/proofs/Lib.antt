@@ -1,6 +1,4 @@
--- Lemmas of components that stand in one list.
-pub mod Lists
+-- Lemmas of terminals' steps at the components that they touch.
+pub mod Departures
 pub mod Leaving
-pub mod Told
-pub mod Directories
 pub mod FilesSteps

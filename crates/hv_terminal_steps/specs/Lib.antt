@@ -1,3 +1,2 @@
--- What the steps of terminals ask of the components that they touch, and when they are made there.
-pub mod Admission
+-- What the steps of terminals do to the queues that they touch.
 pub mod Taken

@@ -7,8 +7,8 @@ ghost use Rattle.hv_parts.specs.Takes.{IsMadeAt};
 ghost use Rattle.hv_parts.specs.Value.{valued};
 ghost use Rattle.hv_rules.specs.Footprint.{all_queues, past_dir_if};
 ghost use Rattle.hv_step.specs.declared.step.Step.TheVariants as steps;
-ghost use Rattle.hv_terminal_steps.specs.Admission.{IsAdmittedBy};
-ghost use Rattle.hv_terminal_steps.specs.Taken.{IsTakenAt};
+ghost use Rattle.hv_parts.specs.Admission.{IsAdmittedBy};
+ghost use Rattle.hv_parts.specs.Takes.{IsTakenAt};
 
 use crate::places::directories;
 use crate::queues::leave_queues;

@@ -1,6 +1,6 @@
 //! Where parts stand in their list.
 ghost use Rattle.std.specs.Prelude.{◌≡◌};
-ghost use Rattle.hv_terminal_steps.specs.Admission.{directories};
+ghost use Rattle.hv_parts.specs.Admission.{directories};
 
 use hv_step::ByGuest;
 

@@ -8,7 +8,7 @@ pub loop-slot-preserved : goal.loop-slot-preserved
 loop-slot-preserved c =
     let entries = c.args.dir.now.entries in
     let told = c.loop-slot.guests.items in
-    let long = c.requires.long in
+    let long = c.at_slot-first.ensures.entries.long in
     let within : c.loop-slot.slot < length c.args.dir.now.entries = omega arith in
     elim c.match-at_slot.branch [
       | in-Some+in_ok-clone+in_ok-push w ↦ (λ i. (w.guests-is i).items)

@@ -6,8 +6,8 @@ use Rattle.hv_handed.specs.Given.{given}
 use Rattle.hv_parts.specs.Value.{valued}
 use Rattle.hv_rules.specs.Footprint.{home_queue, all_queues}
 use Rattle.hv_step.specs.declared.step.Step.TheVariants as steps
-use Rattle.hv_terminal_steps.proofs.Directories.{are-behind, behind-take, behind-long}
-use Rattle.hv_terminal_steps.proofs.Lists.{stand-before}
+use Rattle.hv_parts.proofs.Directories.{are-behind, behind-take, behind-long}
+use Rattle.hv_parts.proofs.Lists.{stand-before}
 use Rattle.hv_terminal_steps.proofs.arrivals.resume_at.Goals as goal
 
 pub split_at_mut-others-requires : goal.split_at_mut-others-requires

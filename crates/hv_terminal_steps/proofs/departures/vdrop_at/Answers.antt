@@ -1,6 +1,6 @@
 use Rattle.std.proofs.Common.{refl}
 use Rattle.hv_parts.specs.Value.{valued}
-use Rattle.hv_terminal_steps.proofs.Lists.{stand-before}
+use Rattle.hv_parts.proofs.Lists.{stand-before}
 use Rattle.hv_terminal_steps.proofs.departures.vdrop_at.Goals as goal
 
 pub vdrop_behind-requires-clause-long : goal.vdrop_behind-requires-clause-long

@@ -21,8 +21,8 @@ use Rattle.hv_rules.specs.Dir.{Admits, AdmitsBy, guest_in}
 use Rattle.hv_rules.specs.Footprint.{past_dir, past_dir_if}
 use Rattle.hv_step.specs.declared.step.ByGuest.{ByGuest}
 use Rattle.hv_step.specs.declared.step.Step.{Step}
-use Rattle.hv_terminal_steps.specs.Admission.{IsAdmitted, IsAdmittedBy, directories}
-use Rattle.hv_terminal_steps.proofs.Lists.{one-takes, one-reads}
+use Rattle.hv_parts.specs.Admission.{IsAdmitted, IsAdmittedBy, directories}
+use Rattle.hv_parts.proofs.Lists.{one-takes, one-reads}
 
 -- A guest whose generation is shown is admitted.
 pub admits :

@@ -1,0 +1,2 @@
+-- Lemmas of what actors learn.
+pub mod Told

@@ -1,0 +1,3 @@
+-- Lemmas of components that stand in one list.
+pub mod Lists
+pub mod Directories
