@@ -1,2 +1,2 @@
 -- Lemmas of what actors learn.
-pub mod Told
+pub mod Learnt

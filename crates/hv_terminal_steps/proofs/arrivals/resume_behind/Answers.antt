@@ -6,7 +6,7 @@ use Rattle.hv_parts.specs.declared.part.Part.TheVariants as part
 use Rattle.hv_rules.specs.Footprint.{home_queue}
 use Rattle.hv_step.specs.declared.step.Step.TheVariants as steps
 use Rattle.hv_parts.proofs.Lists.{two-take, no-others}
-use Rattle.hv_handed.proofs.Told.{untold}
+use Rattle.hv_handed.proofs.Learnt.{untold}
 use Rattle.hv_terminal_steps.proofs.arrivals.resume_behind.Goals as goal
 
 pub returns : goal.returns

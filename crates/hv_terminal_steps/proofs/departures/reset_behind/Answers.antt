@@ -9,7 +9,7 @@ use Rattle.hv_parts.specs.declared.part.Part.TheVariants as part
 use Rattle.hv_rules.specs.Footprint.{all_queues}
 use Rattle.hv_step.specs.declared.step.Step.TheVariants as steps
 use Rattle.hv_parts.proofs.Lists.{one-takes, queues-take, vcpu-is}
-use Rattle.hv_handed.proofs.Told.{untold}
+use Rattle.hv_handed.proofs.Learnt.{untold}
 use Rattle.hv_terminal_steps.proofs.departures.reset_behind.Goals as goal
 
 pub vcpu_mut-requires : goal.vcpu_mut-requires

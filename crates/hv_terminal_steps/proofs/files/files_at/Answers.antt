@@ -5,7 +5,7 @@ use Rattle.hv_parts.specs.declared.part.Part.TheVariants as part
 use Rattle.hv_rules.specs.Carry.{nothing}
 use Rattle.hv_terminal_steps.proofs.FilesSteps.{files-touched, files-alone, files-take}
 use Rattle.hv_parts.proofs.Lists.{one-takes}
-use Rattle.hv_handed.proofs.Told.{alone-as, told-as}
+use Rattle.hv_handed.proofs.Learnt.{alone-as, told-as}
 use Rattle.hv_terminal_steps.proofs.files.files_at.Goals as goal
 
 pub returns-clause-made : goal.returns-clause-made

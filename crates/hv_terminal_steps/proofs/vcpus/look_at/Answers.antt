@@ -5,7 +5,7 @@ use Rattle.hv_parts.specs.Value.{valued}
 use Rattle.hv_parts.specs.declared.part.Part.TheVariants as part
 use Rattle.hv_step.specs.declared.step.Step.TheVariants as steps
 use Rattle.hv_parts.proofs.Lists.{one-reads}
-use Rattle.hv_handed.proofs.Told.{untold}
+use Rattle.hv_handed.proofs.Learnt.{untold}
 use Rattle.hv_terminal_steps.proofs.vcpus.look_at.Goals as goal
 
 pub returns : goal.returns

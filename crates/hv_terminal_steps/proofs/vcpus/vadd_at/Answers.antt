@@ -5,7 +5,7 @@ use Rattle.hv_parts.specs.declared.part.Part.TheVariants as part
 use Rattle.hv_parts.specs.Value.{valued}
 use Rattle.hv_step.specs.declared.step.Step.TheVariants as steps
 use Rattle.hv_parts.proofs.Lists.{one-takes}
-use Rattle.hv_handed.proofs.Told.{untold}
+use Rattle.hv_handed.proofs.Learnt.{untold}
 use Rattle.hv_terminal_steps.proofs.vcpus.vadd_at.Goals as goal
 
 pub returns-clause-made : goal.returns-clause-made
