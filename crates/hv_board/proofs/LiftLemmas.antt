@@ -22,11 +22,11 @@ use Rattle.hv_text.specs.declared.limits.TheConstants.{GREATEST_STAMP}
 use Rattle.hv_board.proofs.EventLemmas.{Becomes, cell-becomes, cell-full, may-happen, next-holds}
 use Rattle.hv_board.proofs.HeldLemmas.{all-at, held_at-none_above}
 use Rattle.hv_board.proofs.PlaceLemmas.{places-within}
-use Rattle.hv_board.proofs.StayLemmas.{cells-stay}
+use Rattle.hv_board.proofs.StayLemmas.{back-holds, back-full}
 use Rattle.hv_board.specs.Board.{AreInOrder, HasRoom, IsFull, IsWhole, cell_at, cell_of, greatest_at}
 use Rattle.hv_board.specs.Carrying.{AreFrom, AreOut, ArePut, IsFullAt, empty}
 use Rattle.hv_board.specs.Held.{IsRising, held_at}
-use Rattle.hv_board.specs.Holds.{HoldsAt}
+use Rattle.hv_board.specs.Holds.{HoldsAt, HoldsAsBefore}
 use Rattle.hv_board.specs.Lifted.{IsLifted, LeadsOn, entry_of}
 use Rattle.hv_board.specs.Places.{HasPlace, count_of, place_of}
 use Rattle.hv_board.specs.declared.board.Board.{Board}
@@ -79,19 +79,27 @@ module _ {E : Type 0} (state : E → DevState) (xs : List CellId) (lifted : Lift
       let all : All (λ k. k < count_of board.layout) board.places.items = subst (λ ks. All (λ k. k < count_of board.layout) ks) (sym is.places) (places-within board.layout xs is.order) in
       (subst IsRising (sym is.places) is.order.rising, λ k d low. omega (arith, all k d low, long))
 
-  -- A board to which all parts come back as they were has its cells as before, and is whole.
-  pub back-cells : (new : Board E) → ArePut None board.places.items lifted.were.value.items board.cells.items new.cells.items → new.cells.items ≡ lifted.before.value.cells.items
-  back-cells new put = cells-stay board.places.items lifted.were.value.items lifted.before.value.cells.items board.cells.items new.cells.items is.out is.from put
+  -- A board to which all parts come back with their values holds what it held before, and is whole.
+  module _ (new : Board E) (layout : new.layout ≡ lifted.before.value.layout) (same : map (valued state) lifted.parts.items ≡ map (valued state) lifted.were.value.items)
+      (put : ArePut None board.places.items lifted.parts.items board.cells.items new.cells.items) where
+    abbrev Before : Layout
+    Before = lifted.before.value.layout
 
-  pub back-whole : (new : Board E) → new.layout ≡ lifted.before.value.layout → new.cells.items ≡ lifted.before.value.cells.items → HasRoom new → IsWhole state new
-  back-whole new layout cells room =
-      let both : (lifted.before.value.layout, lifted.before.value.cells.items) ≡ (new.layout, new.cells.items) = λ i. (sym layout i, sym cells i) in
-      let Each : Layout × List (Cell E) → Type 0 = λ p. (x : CellId) → HasPlace p.0 x → IsFull state x (cell_of p.0 p.1 x) in
-      record {
-        long = ap length cells ∙ (is.whole.long ∙ ap count_of (sym layout));
-        each = subst Each both is.whole.each;
-        room = room;
-      }
+    pub back-as-before : HoldsAsBefore state lifted.before.value new
+    back-as-before O s holds =
+        let Each : Layout → Type 0 = λ l. (x : CellId) → HasPlace l x → HoldsAt state x (s (Component x)) (cell_of l new.cells.items x) in
+        let each : Each Before = λ x has. back-holds state Before board.places.items lifted.were.value.items lifted.parts.items lifted.before.value.cells.items board.cells.items new.cells.items is.whole.long same is.out is.from put x has (s (Component x)) (holds.each x has) in
+        record { harts = holds.harts ∙ ap (λ (l : Layout). l.harts) (sym layout); each = subst Each (sym layout) each }
+
+    pub back-whole : HasRoom new → IsWhole state new
+    back-whole room =
+        let Each : Layout → Type 0 = λ l. (x : CellId) → HasPlace l x → IsFull state x (cell_of l new.cells.items x) in
+        let each : Each Before = λ x has. back-full state Before board.places.items lifted.were.value.items lifted.parts.items lifted.before.value.cells.items board.cells.items new.cells.items is.whole.long same is.out is.from put x has (is.whole.each x has) in
+        record {
+          long = put.0 ∙ (is.out.0 ∙ (is.whole.long ∙ ap count_of (sym layout)));
+          each = subst Each (sym layout) each;
+          room = room;
+        }
 
 module _ {E : Type 0} (state : E → DevState) (by : ActorId) (xs : List CellId) (step : Step) (made : Made E) (lifted : Lifted E) (board new : Board E)
     (is : IsLifted state xs lifted board) (at : IsMadeAt state board.layout.harts by xs step made lifted.were.value.items lifted.parts.items)

@@ -38,3 +38,7 @@ module _ {E : Type 0} (state : E → DevState) where
   pub record Holds (O : Origin) (s : State (machine O)) (board : Board E) : Type 0 where
     pub harts : O.opening.harts ≡ board.layout.harts
     pub each : (x : CellId) → HasPlace board.layout x → HoldsAt x (s (Component x)) (cell_at board x)
+
+  -- A board holds all states that another held.
+  abbrev pub HoldsAsBefore : (old new : Board E) → Type 0
+  HoldsAsBefore old new = (O : Origin) (s : State (machine O)) → Holds O s old → Holds O s new

@@ -9,6 +9,7 @@ ghost use Rattle.hv_board.specs.Places.{HasPlace};
 ghost use Rattle.hv_board.specs.Board.{AreInOrder, IsWhole, greatest_at};
 ghost use Rattle.hv_board.specs.Carrying.{ArePut};
 ghost use Rattle.hv_board.specs.Held.{IsRising};
+ghost use Rattle.hv_board.specs.Holds.{HoldsAsBefore};
 ghost use Rattle.hv_board.specs.Lifted.{IsLifted, IsNext, LeadsOn, entry_of};
 
 use crate::board::Board;
@@ -108,13 +109,14 @@ impl<E: Emulator> Board<E> {
         self.put_parts(lifted.parts, Some(lifted.stamp));
     }
 
-    /// Puts the parts back as they were, without an event.
+    /// Puts the parts back with the values that they had, without an event.
     pub fn put_back(&mut self, lifted: Lifted<E>, xs: &[CellId])
         requires lifted { IsLifted E.state xs.now lifted self.old }
-        requires same { lifted.parts.items ≡ lifted.were.value.items }
+        requires same { map (valued E.state) lifted.parts.items
+            ≡ map (valued E.state) lifted.were.value.items }
         ensures whole { IsWhole E.state self.new }
         ensures layout { self.new.layout ≡ lifted.before.value.layout }
-        ensures cells { self.new.cells.items ≡ lifted.before.value.cells.items }
+        ensures holds { HoldsAsBefore E.state lifted.before.value self.new }
     {
         let _ = xs;
         self.put_parts(lifted.parts, None);
