@@ -1,4 +1,4 @@
 -- Lemmas of terminals' steps at the components that they touch.
-pub mod Departures
+pub mod Departing
 pub mod Leaving
 pub mod FilesSteps

@@ -4,7 +4,7 @@ use Rattle.hv_answer.specs.declared.reply.Reply.TheVariants as replies
 use Rattle.hv_event.specs.declared.event.CellId.TheVariants as component
 use Rattle.hv_handed.specs.Given.{given}
 use Rattle.hv_parts.specs.Value.{valued}
-use Rattle.hv_rules.specs.Footprint.{home_queue, all_queues}
+use Rattle.hv_rules.specs.Footprint.{all_queues}
 use Rattle.hv_step.specs.declared.step.Step.TheVariants as steps
 use Rattle.hv_parts.proofs.Directories.{are-behind, behind-take, behind-long}
 use Rattle.hv_parts.proofs.Lists.{stand-before}

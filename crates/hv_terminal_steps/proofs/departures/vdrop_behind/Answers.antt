@@ -1,4 +1,4 @@
-use Rattle.std.proofs.Common.{List, ◌∷◌, ◌++◌, [], map, slice_set, refl, sym, subst, arith}
+use Rattle.std.proofs.Common.{List, ◌∷◌, ◌++◌, [], map, slice_set, refl, sym, subst}
 use Rattle.hv_event.specs.declared.event.CellId.TheVariants as component
 use Rattle.hv_handed.specs.Given.{given}
 use Rattle.hv_parts.specs.Kinds.{AreOf, IsPartOf}

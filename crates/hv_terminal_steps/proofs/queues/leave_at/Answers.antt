@@ -2,7 +2,7 @@ use Rattle.std.proofs.Common.{sym, subst}
 use Rattle.hv_parts.specs.Value.{valued}
 use Rattle.hv_terminal_steps.specs.Taken.{Departs}
 use Rattle.hv_parts.specs.Value as value
-use Rattle.hv_terminal_steps.proofs.Departures.{departs}
+use Rattle.hv_terminal_steps.proofs.Departing.{departs}
 use Rattle.hv_terminal_steps.proofs.queues.leave_at.Goals as goal
 
 pub returns : goal.returns
