@@ -1,1 +1,2 @@
+-- Lemmas of the steps on guests and their regions.
 pub mod Refusing

@@ -1,6 +1,6 @@
 -- Steps by guest that the directory, which stands alone, refuses.
 use Rattle.std.proofs.Common.{◌≡◌, ℕ, List, [], ◌∷◌, Option, None, Some, refl, sym, subst, ap, ◌∙◌}
-use Rattle.std.specs.Prelude.{Result, Err, option_and_then}
+use Rattle.std.specs.Prelude.{Err, option_and_then}
 use Rattle.hv_answer.specs.declared.reply.Reply.{Reply}
 use Rattle.hv_dir.specs.Directory.{DirState}
 use Rattle.hv_event.specs.declared.event.ActorId.{ActorId}
@@ -10,7 +10,7 @@ use Rattle.hv_guest_steps.specs.Admission.{asked_of, asked_by, shown_by}
 use Rattle.hv_handed.proofs.Learnt.{IsSilent}
 use Rattle.hv_handed.specs.Takes.{DirTakes}
 use Rattle.hv_kinds.specs.declared.generation.Generation.{Generation}
-use Rattle.hv_parts.specs.Kinds.{IsPartOf, AreOf}
+use Rattle.hv_parts.specs.Kinds.{AreOf}
 use Rattle.hv_parts.specs.Takes.{AllTake}
 use Rattle.hv_parts.specs.Value as value
 use Rattle.hv_parts.specs.Value.{PartValue}

@@ -7,6 +7,8 @@
 //! that a step touches there.
 #![tactic(auto)]
 
+mod directory;
 mod refusals;
 
+pub use directory::{guests_at, name_at, stage_at};
 pub use refusals::refused_at;

@@ -1,7 +1,5 @@
-use Rattle.std.proofs.Common.{refl, sym, ◌∙◌}
-use Rattle.hv_handed.specs.Given.{given}
+use Rattle.std.proofs.Common.{sym}
 use Rattle.hv_handed.proofs.Learnt.{untold, alone-as}
-use Rattle.hv_parts.specs.Value.{valued}
 use Rattle.hv_region_steps.proofs.Refusing.{refused-touches, refused-take, refused-silent, over-again}
 use Rattle.hv_region_steps.proofs.refusals.refused_at.Goals as goal
 
