@@ -1,2 +1,3 @@
 -- Lemmas of the steps on guests and their regions.
 pub mod Refusing
+pub mod Admitted

@@ -7,8 +7,10 @@
 //! that a step touches there.
 #![tactic(auto)]
 
+mod devices;
 mod directory;
 mod refusals;
 
+pub use devices::{devreset_at, feed_at, output_at};
 pub use directory::{guests_at, name_at, stage_at};
 pub use refusals::refused_at;
