@@ -1,3 +1,4 @@
 -- Lemmas of the steps on guests and their regions.
 pub mod Refusing
 pub mod Admitted
+pub mod Carried

@@ -11,8 +11,10 @@ mod devices;
 mod directory;
 mod listing;
 mod refusals;
+mod signals;
 
 pub use devices::{devreset_at, feed_at, output_at};
 pub use directory::{guests_at, name_at, stage_at};
 pub use listing::regions_at;
 pub use refusals::refused_at;
+pub use signals::{pin_at, sample_at};
