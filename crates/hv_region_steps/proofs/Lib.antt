@@ -2,3 +2,5 @@
 pub mod Refusing
 pub mod Admitted
 pub mod Carried
+pub mod Answered
+pub mod Standing

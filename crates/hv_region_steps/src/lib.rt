@@ -7,14 +7,18 @@
 //! that a step touches there.
 #![tactic(auto)]
 
+mod adding;
 mod devices;
 mod directory;
 mod listing;
 mod refusals;
+mod removal;
 mod signals;
 
+pub use adding::{add_at, not_added_at};
 pub use devices::{devreset_at, feed_at, output_at};
 pub use directory::{guests_at, name_at, stage_at};
 pub use listing::regions_at;
 pub use refusals::refused_at;
+pub use removal::{drop_at, not_live_at};
 pub use signals::{pin_at, sample_at};
