@@ -1,3 +1,4 @@
 pub mod FetchLemmas
 pub mod AccessLemmas
 pub mod RangeLemmas
+pub mod LookLemmas

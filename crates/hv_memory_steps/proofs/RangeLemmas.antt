@@ -1,4 +1,4 @@
--- Ranges that windows show: where they are found, and which components take looks and loads.
+-- Ranges that windows show: where they are found, and which components take loads.
 use Rattle.std.proofs.Common.{◌≡◌, ℕ, ◌+◌, ◌≤◌, Bool, true, false, nat_le, refl, sym, ap, subst, ◌∙◌, arith, List, length, Option, Some, None}
 use Rattle.std.specs.Prelude.{Ok, Err, if◌then◌else◌, slice_range}
 use Rattle.std.specs.Option.{option_map}
@@ -28,7 +28,6 @@ use Rattle.hv_rules.specs.Space.{HandsWindow, SpaceAgrees}
 use Rattle.hv_rules.specs.Windows.{window_at}
 use Rattle.hv_space.specs.Space.{SpaceState}
 use Rattle.hv_step.specs.declared.step.Load.{Load}
-use Rattle.hv_step.specs.declared.step.Mem.{Mem}
 use Rattle.hv_step.specs.declared.step.Step.TheVariants as step
 use Rattle.hv_memory_steps.specs.Hands.{load_carry}
 use Rattle.hv_memory_steps.specs.Ranges.{found_by, found_in, found_of, own_bytes, own_memory, shown_range}
@@ -194,16 +193,6 @@ module _ {E : Type 0} (state : E → DevState) where
   pub stored_seen : (body : Option (Live E)) (offset : ℕ) (bytes : List ℕ) → seen state (with_stored body offset bytes) ≡ with_stored (seen state body) offset bytes
   stored_seen None offset bytes = refl
   stored_seen (Some live) offset bytes = ap (λ (contents : Contents DevState). Some (with_contents live contents)) (put_seen live.contents offset bytes)
-
--- a space takes a look that no window holds
-pub space_mem_refused : (s : Mem) (c : Carry) (space : SpaceState) → c ≡ nothing → window_at space.windows Memory s.address s.count ≡ None
-    → SpaceTakes (step.Mem s) (reply.Mem (Err refusal.NoWindow)) c space space
-space_mem_refused s c space handed is = record {
-  agrees =
-      subst (λ (found : Option Window). HandsWindow found (reply.Mem (Err refusal.NoWindow)) (reply.Mem (Err refusal.NoWindow)) c) (sym is)
-      (refl, ap (λ (k : Carry). k.window) handed, ap (λ (k : Carry). k.area) handed);
-  after = refl;
-}
 
 -- Loads.
 

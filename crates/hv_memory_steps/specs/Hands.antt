@@ -14,3 +14,7 @@ access_carry pending area parent = record nothing { pending = Some pending; area
 -- Of a file that is loaded: its bytes, the window that shows where, and the area that takes it.
 abbrev pub load_carry : (bytes : List ℕ) → (window : Option Window) → (area : Option (ℕ × ℕ)) → Carry
 load_carry bytes window area = record nothing { bytes = Some bytes; window = window; area = area }
+
+-- Of a look at memory: the window that shows it, and the area of which it shows a part.
+abbrev pub mem_carry : Window → (area : Option (ℕ × ℕ)) → Carry
+mem_carry window area = record nothing { window = Some window; area = area }

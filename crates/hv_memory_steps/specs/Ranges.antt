@@ -1,5 +1,5 @@
 -- Ranges of a region's bytes that windows show to looks and loads from outside.
-use Rattle.std.specs.Prelude.{ℕ, ◌+◌, nat_le, if◌then◌else◌, List, [], Option, None, Some}
+use Rattle.std.specs.Prelude.{ℕ, ◌+◌, ◌^◌, ◌<◌, ◌≤◌, nat_le, if◌then◌else◌, List, [], Option, None, Some}
 use Rattle.hv_body.specs.Windows.{offset_in}
 use Rattle.hv_body.specs.declared.contents.Contents.{Contents}
 use Rattle.hv_body.specs.declared.contents.Contents.TheVariants.{Writable, ReadOnly, Emulated, Shared}
@@ -9,6 +9,7 @@ use Rattle.hv_region.specs.declared.plan.Form.TheVariants as form
 use Rattle.hv_region.specs.declared.plan.RegionPlan.{RegionPlan}
 use Rattle.hv_region.specs.declared.window.Window.{Window}
 use Rattle.hv_rules.specs.Body.{BodyValue, Range, range_of}
+use Rattle.hv_text.specs.declared.limits.TheConstants.{MOST_MEMORY}
 use Rattle.hv_memory_steps.specs.declared.ranges.Found.{Found}
 use Rattle.hv_memory_steps.specs.declared.ranges.Found.TheVariants.{Own, InArea, NoMemory}
 
@@ -43,3 +44,10 @@ found_in plan offset size = if nat_le (offset + size) plan.size then found_by pl
 abbrev pub found_of : {D : Type 0} → Option (Live D) → (offset size : ℕ) → Found
 found_of None offset size = NoMemory
 found_of (Some live) offset size = found_in live.plan offset size
+
+-- So many bytes from where they are found on end within the numbers of an offset, and those of an area within the most
+-- bytes of one.
+abbrev pub EndsWithin : (size : ℕ) → Found → Type 0
+EndsWithin size (Own start) = start + size < 2 ^ 64
+EndsWithin size (InArea number start) = start + size ≤ MOST_MEMORY
+EndsWithin size NoMemory = Unit {0}

@@ -4,7 +4,7 @@ ghost use Rattle.std.specs.Option.{option_map};
 ghost use Rattle.hv_handed.specs.Given.{given, pended};
 ghost use Rattle.hv_handed.specs.Told.{IsTold};
 ghost use Rattle.hv_rules.specs.Carry.{nothing};
-ghost use Rattle.hv_memory_steps.specs.Hands.{access_carry, fetch_carry, load_carry};
+ghost use Rattle.hv_memory_steps.specs.Hands.{access_carry, fetch_carry, load_carry, mem_carry};
 
 use hv_answer::Reply;
 use hv_emu::Emulator;
@@ -93,6 +93,26 @@ pub(crate) fn made_load<E: Emulator>(
     let mut carry = Carry::nothing();
     carry.bytes = Some(Snapshot::of(bytes));
     carry.window = window;
+    carry.area = area;
+    Made {
+        reply,
+        handed: Snapshot::of(&carry),
+        told: Told::nothing(),
+    }
+}
+
+/// A look at memory: the window that shows it, and the area of which it shows a part.
+pub(crate) fn made_mem<E: Emulator>(
+    reply: Reply,
+    window: Window,
+    area: Option<(u8, u64)>,
+) -> Made<E>
+    ensures reply { result.reply ≡ reply }
+    ensures handed { given E.state result.handed.value ≡ mem_carry window area }
+    ensures told { IsTold (given E.state result.handed.value) result.told }
+{
+    let mut carry = Carry::nothing();
+    carry.window = Some(window);
     carry.area = area;
     Made {
         reply,

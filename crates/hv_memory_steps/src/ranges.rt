@@ -1,10 +1,11 @@
 //! Ranges of a region's bytes, which a window shows.
-ghost use Rattle.std.specs.Prelude.{◌≡◌, ◌+◌};
+ghost use Rattle.std.specs.Prelude.{◌≡◌, ◌+◌, ◌≤◌, IfSome};
 ghost use Rattle.hv_body.specs.Body.{seen};
 ghost use Rattle.hv_body.specs.Rules.{FitsArea, IsBody};
 ghost use Rattle.hv_body.specs.Windows.{offset_in};
 ghost use Rattle.hv_rules.specs.Body.{shared_in};
-ghost use Rattle.hv_memory_steps.specs.Ranges.{found_in, found_of, shown_range};
+ghost use Rattle.hv_memory_steps.specs.Ranges.{EndsWithin, found_in, found_of, shown_range};
+ghost use Rattle.hv_text.specs.declared.limits.TheConstants.{MOST_MEMORY};
 
 use hv_body::BodyOf;
 use hv_emu::Emulator;
@@ -29,7 +30,8 @@ pub fn area_shown<E: Emulator>(
     address: u64,
     size: u64,
 ) -> Option<(u8, u64)>
-    ensures { result ≡ shared_in (shown_range (seen E.state body.now) window address size) }
+    ensures area { result ≡ shared_in (shown_range (seen E.state body.now) window address size) }
+    ensures ends { IfSome result (λ place. place.1 + size ≤ MOST_MEMORY) }
 {
     match find(body, window, address, size) {
         Found::InArea(number, offset) => Some((number, offset)),
@@ -42,6 +44,7 @@ pub fn area_shown<E: Emulator>(
 #[tactic(auto, using(crate::proofs::RangeLemmas::plan_fits, crate::proofs::RangeLemmas::found_as, crate::proofs::RangeLemmas::found_nowhere))]
 pub(crate) fn find<E: Emulator>(body: &BodyOf<E>, window: Window, address: u64, size: u64) -> Found
     ensures value { result ≡ found_of body.now (offset_in window address) size }
+    ensures ends { EndsWithin size result }
     ensures rules { IsBody body.now }
 {
     match body.plan() {
@@ -56,7 +59,8 @@ pub(crate) fn find<E: Emulator>(body: &BodyOf<E>, window: Window, address: u64, 
 /// Where a range of a planned region's bytes is, by its distance behind an offset.
 fn find_in(plan: &RegionPlan, distance: u64, offset: u64, size: u64) -> Found
     requires { FitsArea plan.now.size plan.now.form }
-    ensures { result ≡ found_in plan.now (distance + offset) size }
+    ensures value { result ≡ found_in plan.now (distance + offset) size }
+    ensures ends { EndsWithin size result }
 {
     let end = plan.size;
     let Some(start) = distance.checked_add(offset) else {

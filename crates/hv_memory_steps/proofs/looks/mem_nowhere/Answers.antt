@@ -3,7 +3,7 @@ use Rattle.hv_answer.specs.declared.reply.Reply.{Reply}
 use Rattle.hv_handed.specs.Given.{given}
 use Rattle.hv_handed.specs.Takes.{SpaceTakes}
 use Rattle.hv_step.specs.declared.step.Step.TheVariants as step
-use Rattle.hv_memory_steps.proofs.RangeLemmas.{space_mem_refused}
+use Rattle.hv_memory_steps.proofs.LookLemmas.{space_mem_refused}
 use Rattle.hv_memory_steps.proofs.looks.mem_nowhere.Goals as goal
 
 pub returns-clause-space : goal.returns-clause-space
