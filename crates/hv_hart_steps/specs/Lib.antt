@@ -1,0 +1,2 @@
+-- What the contracts of harts' steps say of the components that they touch.
+pub mod Allowed

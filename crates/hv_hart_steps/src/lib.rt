@@ -1,0 +1,12 @@
+//! The steps of harts at the components that they touch, which stand in one list.
+//!
+//! Terms: parts are components of any kind, in the order in which a step locks them; a hart chooses its
+//! step by reading components, and a step asks of its parts what allowed that choice; what the hart
+//! learns of a step is told.
+#![tactic(auto)]
+
+mod turns;
+mod vcpus;
+
+pub use turns::{dispatch_at, idle_at, preempt_at};
+pub use vcpus::{leave_at, take_at};
