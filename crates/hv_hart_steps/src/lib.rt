@@ -5,8 +5,12 @@
 //! learns of a step is told.
 #![tactic(auto)]
 
+mod clocks;
+mod faults;
 mod turns;
 mod vcpus;
 
+pub use clocks::{tick_at, tick_nothing_at};
+pub use faults::fault_at;
 pub use turns::{dispatch_at, idle_at, preempt_at};
 pub use vcpus::{leave_at, take_at};

@@ -1,0 +1,2 @@
+-- Lemmas of harts' steps at the components that they touch.
+pub mod Spaces
