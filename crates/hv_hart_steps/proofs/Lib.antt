@@ -1,2 +1,3 @@
 -- Lemmas of harts' steps at the components that they touch.
 pub mod Spaces
+pub mod Moving

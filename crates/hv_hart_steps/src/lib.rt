@@ -5,11 +5,15 @@
 //! learns of a step is told.
 #![tactic(auto)]
 
+mod balancing;
 mod clocks;
 mod faults;
+mod lengths;
+mod queues;
 mod turns;
 mod vcpus;
 
+pub use balancing::balance_at;
 pub use clocks::{tick_at, tick_nothing_at};
 pub use faults::fault_at;
 pub use turns::{dispatch_at, idle_at, preempt_at};
