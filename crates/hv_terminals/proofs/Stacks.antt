@@ -1,7 +1,8 @@
 -- Open scripts, seen from the innermost.
-use Rattle.std.proofs.Common.{◌≡◌, ◌≤◌, ◌-◌, ℕ, zero, suc, take, get_or, List, [], ◌∷◌, ◌++◌, length, Some, None, refl, ap, ◌∙◌, sym, arith, length-append}
-use Rattle.hv_model.specs.Session.{Scripts, next_in}
-use Rattle.hv_terminals.specs.Scripts.{depth_of, first_line, line_of, reversed}
+use Rattle.std.proofs.Common.{◌≡◌, ◌≤◌, ◌-◌, ℕ, zero, suc, Bool, true, false, take, get_or, List, [], ◌∷◌, ◌++◌, length, Some, None, refl, ap, ◌∙◌, sym, arith, length-append}
+use Rattle.std.specs.Prelude.{Option, is_none}
+use Rattle.hv_model.specs.Session.{Scripts, begun_boot, begun_own, next_in}
+use Rattle.hv_terminals.specs.Scripts.{begun_depth, depth_of, first_line, line_of, reversed}
 
 pub reversed_push : {A : Type 0} (xs : List A) (y : A) → reversed (xs ++ y ∷ []) ≡ y ∷ reversed xs
 reversed_push [] y = refl
@@ -70,3 +71,21 @@ depth_last scripts d inner line some is found =
 pub further_last : (scripts : Scripts) (d inner : List (List ℕ)) → 1 ≤ length scripts → inner ≡ get_or scripts (length scripts - 1) d → first_line inner ≡ None → next_in (reversed (take (length scripts - 1) scripts)) ≡ next_in (reversed scripts)
 further_last scripts d inner some is over =
     sym (ap (λ zs. next_in (reversed zs)) (last_parts scripts d inner some is) ∙ next_further (take (length scripts - 1) scripts) inner over)
+
+-- a command of the boot script stands within its scripts
+pub depth_boot : (boot own : Scripts) → is_none (next_in boot) ≡ false → depth_of (next_in boot) ≡ begun_depth (begun_boot (next_in boot) own)
+depth_boot [] own is = absurd (cc is)
+depth_boot ([] ∷ scripts) own is = depth_boot scripts own is
+depth_boot ((l ∷ ls) ∷ scripts) own is = refl
+
+own-depth : (next : Option (List ℕ × Scripts)) → depth_of next ≡ begun_depth (begun_own next)
+own-depth None = refl
+own-depth (Some next) = refl
+
+boot-over : (next : Option (List ℕ × Scripts)) (own : Scripts) → is_none next ≡ true → depth_of (next_in own) ≡ begun_depth (begun_boot next own)
+boot-over None own is = own-depth (next_in own)
+boot-over (Some next) own is = absurd (cc is)
+
+-- or else of the own script
+pub depth_own : (boot own : Scripts) → is_none (next_in boot) ≡ true → depth_of (next_in own) ≡ begun_depth (begun_boot (next_in boot) own)
+depth_own boot own is = boot-over (next_in boot) own is

@@ -9,6 +9,7 @@ mod answer;
 mod due;
 mod plans;
 mod script;
+mod scripts;
 mod stack;
 #[cfg(test)]
 mod tests;
@@ -18,5 +19,6 @@ pub use answer::{RunAnswer, answer_run};
 pub use due::{Due, Hands, room_for};
 pub use plans::{Plans, Unplanned, index_of};
 pub use script::OpenScript;
+pub use scripts::Scripts;
 pub use stack::Stack;
 pub use work::{Work, work_of};
