@@ -1,2 +1,6 @@
 pub mod Stacks
 pub mod CommandLines
+pub mod Tasks
+pub mod Sessions
+pub mod Agreement
+pub mod Terminals

@@ -1,5 +1,5 @@
 -- Open scripts, seen from the innermost.
-use Rattle.std.proofs.Common.{◌≡◌, ◌≤◌, ◌-◌, ℕ, zero, suc, Bool, true, false, take, get_or, List, [], ◌∷◌, ◌++◌, length, Some, None, refl, ap, ◌∙◌, sym, arith, length-append}
+use Rattle.std.proofs.Common.{◌≡◌, ◌≤◌, ◌-◌, ℕ, zero, suc, true, false, take, get_or, List, [], ◌∷◌, ◌++◌, length, Some, None, refl, ap, ◌∙◌, sym, arith, length-append}
 use Rattle.std.specs.Prelude.{Option, is_none}
 use Rattle.hv_model.specs.Session.{Scripts, begun_boot, begun_own, next_in}
 use Rattle.hv_terminals.specs.Scripts.{begun_depth, depth_of, first_line, line_of, reversed}

@@ -4,3 +4,6 @@ pub mod Scripts
 pub mod Due
 pub mod Answer
 pub mod Work
+pub mod Task
+pub mod Session
+pub mod Terminal

@@ -7,7 +7,7 @@ ghost use Rattle.hv_terminals.specs.Due.{guest_shown, room_for, shown_at, vcpu_s
 use crate::plans::Unplanned;
 use hv_answer::Reply;
 use hv_kinds::Generation;
-use hv_programs::given_vcpu;
+use hv_programs::{Line, given_vcpu};
 use hv_region::{RegionPlan, VcpuPlan};
 use hv_step::{ByGuest, Step};
 use hv_text::{GUEST_VCPUS, MOST_LINES, OPEN_SCRIPTS};
@@ -27,6 +27,19 @@ pub struct Hands<'a> {
     pub room: Option<u64>,
 }
 
+/// What a terminal begins with its step.
+#[derive(Drop)]
+pub enum Begins {
+    /// Nothing: the step is owed, or it is of the line that is begun.
+    Nothing,
+    /// The next command, which has this step alone.
+    Command,
+    /// The next command, with its line of several steps.
+    Line(Line),
+    /// The next line of a script, which is no command.
+    NoCommand,
+}
+
 /// A terminal's next step, as it is asked; a step by guest shows no generation yet.
 #[derive(Drop)]
 pub struct Due<'a> {
@@ -36,6 +49,7 @@ pub struct Due<'a> {
     /// The reply, where the terminal gives it itself.
     pub reply: Option<Reply>,
     pub hands: Hands<'a>,
+    pub begins: Begins,
 }
 
 /// How many lines a script may have that is run now, where so many scripts are open, and all that

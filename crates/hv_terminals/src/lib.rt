@@ -7,18 +7,26 @@
 
 mod answer;
 mod due;
+mod laws;
+mod owes;
 mod plans;
 mod script;
 mod scripts;
+mod session;
 mod stack;
+mod task;
+mod terminal;
 #[cfg(test)]
 mod tests;
 mod work;
 
 pub use answer::{RunAnswer, answer_run};
-pub use due::{Due, Hands, room_for};
+pub use due::{Begins, Due, Hands, room_for};
+pub use laws::{terminals_agree_to_what_is_due, terminals_open_few_lines, terminals_start_so};
 pub use plans::{Plans, Unplanned, index_of};
 pub use script::OpenScript;
 pub use scripts::Scripts;
+pub use session::Session;
 pub use stack::Stack;
+pub use terminal::Terminal;
 pub use work::{Work, work_of};

@@ -140,6 +140,7 @@ fn due_kick<'a>(alloc: Global) -> Result<Due<'a>, AllocError>
             vcpu: None,
             room: None,
         },
+        begins: Begins::Nothing,
     })
 }
 
@@ -166,6 +167,48 @@ fn asks_for_a_line_of_rests(rt: HostRuntime) -> Result<(), Fail> {
     let rests = matches!(&work, Work::Several(Asked::Rests(10_000)));
     drop(work);
     assert!(rt; rests);
+    Ok(())
+}
+
+#[test]
+fn opens_a_script_where_its_command_stands(rt: HostRuntime) -> Result<(), Fail> {
+    let mut scripts = Scripts::new(Stack::new(rt.alloc()), Stack::new(rt.alloc()));
+    scripts.make_room()?;
+    assert!(rt; scripts.has_booted());
+    scripts.open(OpenScript::new(text_of(rt.alloc(), b"one\n")?));
+    assert!(rt; scripts.line() == Some(b"one"));
+    assert!(rt; scripts.depth() == 1);
+    assert!(rt; scripts.skip());
+    assert!(rt; scripts.has_ended());
+    Ok(())
+}
+
+fn is_rest(due: &Option<Due<'_>>) -> bool {
+    match due {
+        Some(due) => matches!(due.reply, Some(Reply::Rest)),
+        None => false,
+    }
+}
+
+// Makes a rest, which is due, and says whether it was one.
+fn rests(alloc: Global, terminal: &mut Terminal<'_>) -> Result<bool, AllocError> {
+    let due = terminal.due(alloc)?;
+    let rests = is_rest(&due);
+    drop(due);
+    Ok(rests)
+}
+
+#[test]
+fn a_terminal_begins_with_its_boot_script(rt: HostRuntime) -> Result<(), Fail> {
+    let plans = Plans::new(Items::new(rt.alloc()));
+    let boot = text_of(rt.alloc(), b"term rest 2\n")?;
+    let own = text_of(rt.alloc(), b"")?;
+    let mut terminal = Terminal::new(rt.alloc(), &plans, Some(boot), own)?;
+    terminal.make_room()?;
+    let rests = rests(rt.alloc(), &mut terminal)?;
+    assert!(rt; rests);
+    assert!(rt; !terminal.is_at_boot_end());
+    assert!(rt; !terminal.is_at_end());
     Ok(())
 }
 

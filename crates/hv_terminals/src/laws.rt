@@ -1,0 +1,32 @@
+//! Laws of terminals, each the contract of a function that does nothing.
+ghost use Rattle.std.specs.Prelude.{◌≡◌, ◌+◌, ◌≤◌, ℕ, Option, Some};
+ghost use Rattle.hv_text.specs.declared.limits.TheConstants.{MOST_LINES};
+ghost use Rattle.hv_kinds.specs.declared.generation.Generation.{Generation};
+ghost use Rattle.hv_model.specs.declared.entry.Entry.{Entry};
+ghost use Rattle.hv_model.specs.Legal.{terminal_at_start};
+ghost use Rattle.hv_model.specs.Origin.{Origin, own_script};
+ghost use Rattle.hv_model.specs.Session.{lines_run};
+ghost use Rattle.hv_model.specs.Terminal.{TerminalAgrees, TerminalState};
+ghost use Rattle.hv_terminals.specs.declared.due.Due.{Due};
+ghost use Rattle.hv_terminals.specs.Terminal.{IsCounted, IsDue, IsMadeSo, at_start, boot_given};
+
+/// A run begins with terminals of the host tree's plans, the first of which has the boot script.
+pub fn terminals_start_so()
+    ensures { (O : Origin) (t : ℕ) → terminal_at_start O t
+        ≡ at_start O.opening.plans (boot_given O t) (own_script O t) }
+{}
+
+/// A terminal agrees to the event of the step that was due of it, where the step shows the generation
+/// that the directory gave and was made with what the terminal handed over.
+pub fn terminals_agree_to_what_is_due()
+    ensures { (t : TerminalState) (due : Due) (given : Option Generation) (e : Entry)
+        → IsDue t (Some due) → t.session.lines ≤ MOST_LINES → e.event.index ≡ t.count + 1
+        → IsMadeSo due given e.event.step e.event.reply e.carry → TerminalAgrees t e }
+{}
+
+/// A step to which a terminal agrees leaves its scripts no more lines than they may have.
+pub fn terminals_open_few_lines()
+    ensures { (t : TerminalState) (e : Entry) → TerminalAgrees t e
+        → IsCounted e.event.step e.event.reply e.carry → t.session.lines ≤ MOST_LINES
+        → t.session.lines + lines_run e.event.reply ≤ MOST_LINES }
+{}
