@@ -4,3 +4,4 @@ pub mod Tasks
 pub mod Sessions
 pub mod Agreement
 pub mod Terminals
+pub mod OwedSteps

@@ -1,14 +1,17 @@
 -- A terminal in code: its state with room for what it may owe and open, what is due of it, and what is known of a step that
 -- was made so.
 use Rattle.std.specs.Prelude.{◌≡◌, ◌<◌, ℕ, ◌+◌, ◌==◌, ◌≤◌, if◌then◌else◌, true, Option, None, Some, Ok, List, [], ◌∷◌, length}
+use Rattle.std.specs.Option.{IfSome}
 use Rattle.hv_answer.specs.declared.reply.Reply.{Reply}
 use Rattle.hv_answer.specs.declared.reply.Reply.TheVariants as reply
 use Rattle.hv_kinds.specs.declared.generation.Generation.{Generation}
+use Rattle.hv_region.specs.declared.plan.RegionPlan.{RegionPlan}
 use Rattle.hv_step.specs.declared.step.Step.{Step}
 use Rattle.hv_step.specs.declared.step.Step.TheVariants as step
 use Rattle.hv_text.specs.Lines.{script_lines}
 use Rattle.hv_text.specs.declared.limits.TheConstants.{GUEST_REGIONS, GUEST_VCPUS, SLOTS}
 use Rattle.hv_programs.specs.Line.{IsGiven}
+use Rattle.hv_programs.specs.Owed.{IsParent}
 use Rattle.hv_programs.specs.declared.owed.TheConstants.{MOST_OWED}
 use Rattle.hv_rules.specs.Carry.{Carry, nothing}
 use Rattle.hv_rules.specs.Handed.{handed_over}
@@ -127,3 +130,24 @@ abbrev pub IsCounted : Step → Reply → Carry → Type 0
 IsCounted (step.Run s) (reply.Run (Ok script)) c = c.lines ≡ Some (length (script_lines script))
 IsCounted s (reply.Run (Ok script)) c = ⊥
 IsCounted s r c = Unit {0}
+
+-- The interrupts of the regions of a guest, by row from a number on, go to other regions, if to any.
+abbrev pub HaveOtherParents : (from : ℕ) → List RegionPlan → Type 0
+HaveOtherParents from [] = Unit {0}
+HaveOtherParents from (region ∷ regions) = IsParent from region.parent × HaveOtherParents (from + 1) regions
+
+-- The regions of a guest's plan: no more than a guest can have, whose interrupts go to others among them.
+pub record HasGoodRegions (regions : List RegionPlan) : Type 0 where
+  pub few : length regions ≤ GUEST_REGIONS
+  pub parents : HaveOtherParents 0 regions
+
+-- What a step brings to a terminal is of the board: the guest that it shows, and the row of a region with its parent.
+abbrev pub BringsRow : (given : Option Generation) → Carry → Type 0
+BringsRow given c = IsGiven given × IfSome c.row (λ row. (row < GUEST_REGIONS) × IsParent row c.parent)
+
+abbrev pub Brings : Step → Carry → Type 0
+Brings (step.Add s) c = BringsRow s.generation c
+Brings (step.Drop s) c = BringsRow s.generation c
+Brings (step.Devreset s) c = BringsRow s.generation c
+Brings (step.Feed s) c = BringsRow s.generation c
+Brings _ c = Unit {0}

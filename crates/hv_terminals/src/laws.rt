@@ -1,14 +1,16 @@
 //! Laws of terminals, each the contract of a function that does nothing.
-ghost use Rattle.std.specs.Prelude.{◌≡◌, ◌+◌, ◌≤◌, ℕ, Option, Some};
+ghost use Rattle.std.specs.Prelude.{◌≡◌, ◌+◌, ◌≤◌, ℕ, All, List, Option, Some};
 ghost use Rattle.hv_text.specs.declared.limits.TheConstants.{MOST_LINES};
 ghost use Rattle.hv_kinds.specs.declared.generation.Generation.{Generation};
 ghost use Rattle.hv_model.specs.declared.entry.Entry.{Entry};
 ghost use Rattle.hv_model.specs.Legal.{terminal_at_start};
 ghost use Rattle.hv_model.specs.Origin.{Origin, own_script};
+ghost use Rattle.hv_model.specs.Plans.{Planned, regions_of};
 ghost use Rattle.hv_model.specs.Session.{lines_run};
-ghost use Rattle.hv_model.specs.Terminal.{TerminalAgrees, TerminalState};
+ghost use Rattle.hv_model.specs.Terminal.{TerminalAgrees, TerminalState, terminal_after};
+ghost use Rattle.hv_programs.specs.Owed.{IsOwed};
 ghost use Rattle.hv_terminals.specs.declared.due.Due.{Due};
-ghost use Rattle.hv_terminals.specs.Terminal.{IsCounted, IsDue, IsMadeSo, at_start, boot_given};
+ghost use Rattle.hv_terminals.specs.Terminal.{Brings, HasGoodRegions, IsCounted, IsDue, IsMadeSo, at_start, boot_given};
 
 /// A run begins with terminals of the host tree's plans, the first of which has the boot script.
 pub fn terminals_start_so()
@@ -29,4 +31,15 @@ pub fn terminals_open_few_lines()
     ensures { (t : TerminalState) (e : Entry) → TerminalAgrees t e
         → IsCounted e.event.step e.event.reply e.carry → t.session.lines ≤ MOST_LINES
         → t.session.lines + lines_run e.event.reply ≤ MOST_LINES }
+{}
+
+/// The steps that a terminal owes are of its guests and of the board, from the start on, whatever the
+/// replies.
+pub fn terminals_owe_steps_of_the_board()
+    ensures start { (plans : List Planned) (boot : Option (List ℕ)) (own : List ℕ)
+        → All IsOwed (at_start plans boot own).owed }
+    ensures step { (t : TerminalState) (e : Entry) → TerminalAgrees t e
+        → Brings e.event.step e.carry
+        → ((name : List ℕ) → HasGoodRegions (regions_of t.plans name)) → All IsOwed t.owed
+        → All IsOwed (terminal_after t e).owed }
 {}

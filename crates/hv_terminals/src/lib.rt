@@ -22,7 +22,10 @@ mod work;
 
 pub use answer::{RunAnswer, answer_run};
 pub use due::{Begins, Due, Hands, room_for};
-pub use laws::{terminals_agree_to_what_is_due, terminals_open_few_lines, terminals_start_so};
+pub use laws::{
+    terminals_agree_to_what_is_due, terminals_open_few_lines, terminals_owe_steps_of_the_board,
+    terminals_start_so,
+};
 pub use plans::{Plans, Unplanned, index_of};
 pub use script::OpenScript;
 pub use scripts::Scripts;

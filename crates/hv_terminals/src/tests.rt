@@ -1,13 +1,16 @@
 //! A guest's plan, a short script and a step that is due, with ample memory.
-ghost use Rattle.std.specs.Prelude.{◌≡◌, length, IfOk};
+ghost use Rattle.std.specs.Prelude.{◌≡◌, ◌+◌, ◌<◌, ◌≤◌, ◌^◌, length, IfOk};
+ghost use Rattle.hv_text.specs.declared.limits.TheConstants.{MOST_LINES};
+ghost use Rattle.hv_terminals.specs.Terminal.{HasRoom, begins_with};
 
 use super::*;
 use hv_answer::Reply;
+use hv_handed::Told;
 use hv_kinds::{AddressType, Generation};
 use hv_programs::Asked;
 use hv_refusal::Refusal;
 use hv_region::{Form, GuestPlan, RegionPlan, VcpuPlan};
-use hv_step::{ByGuest, Kick, Step};
+use hv_step::{ByGuest, Kick, Rest, Step};
 use hv_text::{Bytes, Items};
 use hv_words::Command;
 use std::alloc::{AllocError, Global};
@@ -183,32 +186,43 @@ fn opens_a_script_where_its_command_stands(rt: HostRuntime) -> Result<(), Fail> 
     Ok(())
 }
 
-fn is_rest(due: &Option<Due<'_>>) -> bool {
-    match due {
-        Some(due) => matches!(due.reply, Some(Reply::Rest)),
-        None => false,
-    }
+fn is_rest(due: &Due<'_>) -> bool {
+    matches!(due.reply, Some(Reply::Rest))
 }
 
-// Makes a rest, which is due, and says whether it was one.
-fn rests(alloc: Global, terminal: &mut Terminal<'_>) -> Result<bool, AllocError> {
-    let due = terminal.due(alloc)?;
-    let rests = is_rest(&due);
-    drop(due);
-    Ok(rests)
+fn begun_with(due: Due<'_>) -> Begins
+    ensures { result ≡ due.begins }
+{
+    due.begins
+}
+
+// Takes the reply to a rest.
+fn rest(terminal: &mut Terminal<'_>, begins: Begins)
+    requires count { terminal.old.terminal.count + 1 < 2 ^ 64 }
+    requires room { HasRoom terminal.old }
+    requires begins { begins ≡ begins_with terminal.old.terminal }
+    requires few { terminal.old.terminal.session.lines ≤ MOST_LINES }
+{
+    let step = Step::Rest(Rest);
+    terminal.took(&step, &Reply::Rest, None, Told::nothing(), begins, None);
 }
 
 #[test]
-fn a_terminal_begins_with_its_boot_script(rt: HostRuntime) -> Result<(), Fail> {
+fn a_terminal_rests_and_ends(rt: HostRuntime) -> Result<(), Fail> {
     let plans = Plans::new(Items::new(rt.alloc()));
-    let boot = text_of(rt.alloc(), b"term rest 2\n")?;
+    let boot = text_of(rt.alloc(), b"term rest 1\n")?;
     let own = text_of(rt.alloc(), b"")?;
     let mut terminal = Terminal::new(rt.alloc(), &plans, Some(boot), own)?;
     terminal.make_room()?;
-    let rests = rests(rt.alloc(), &mut terminal)?;
-    assert!(rt; rests);
     assert!(rt; !terminal.is_at_boot_end());
-    assert!(rt; !terminal.is_at_end());
+    let Some(due) = terminal.due(rt.alloc())? else {
+        return Err(Fail::from("a rest is due"));
+    };
+    let rests = is_rest(&due);
+    rest(&mut terminal, begun_with(due));
+    assert!(rt; rests);
+    assert!(rt; terminal.is_at_boot_end());
+    assert!(rt; terminal.is_at_end());
     Ok(())
 }
 
