@@ -1,0 +1,2 @@
+-- The states of all VCPUs as one list.
+pub mod ByNumber
