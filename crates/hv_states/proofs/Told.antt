@@ -1,7 +1,7 @@
 -- What is told of all VCPUs, as events are taken one after the other.
-use Rattle.std.proofs.Common.{◌≡◌, ◌≢◌, ℕ, ◌+◌, ◌<◌, ◌≤◌, inl, inr, Option, None, Some, List, [], ◌∷◌, ◌++◌, map, length, get_or, set, refl, ap, sym, ◌∙◌, arith, length-set}
+use Rattle.std.proofs.Common.{◌≡◌, ◌≢◌, ℕ, ◌+◌, ◌<◌, ◌≤◌, inl, inr, Option, None, Some, List, [], ◌∷◌, ◌++◌, map, length, get_or, set, take, refl, ap, sym, ◌∙◌, arith, length-set}
 use Rattle.std.proofs.lemmas.Bool.{cases_eq, eq-eqb, ne_eqb}
-use Rattle.std.proofs.lemmas.List.{append-nil, append_assoc, get_or-map, get_or-set_same, get_or-set_other, length-map, map-append, map-set, set_past}
+use Rattle.std.proofs.lemmas.List.{append-nil, append_assoc, get_or-map, get_or-set_same, get_or-set_other, length-map, map-append, map-set, set_past, take_more}
 use Rattle.std.proofs.lemmas.List.Elements.{filter_map-append}
 use Rattle.std.proofs.lemmas.List.FromFn.{fill_by_all, get_or-map-range_with_len, length-map-range_with_len, map-range_with_len_more}
 use Rattle.std.specs.List.{cons_option, range_with_len}
@@ -98,5 +98,15 @@ more-event H e v =
     ∙ ap (λ states. first_states v ++ states) (ap (λ states. changes_of H v ++ states) (as-option (of e)) ∙ sym (filter_map-append of H (e ∷ [])))
 
 -- an event more is told
-pub with_change-event : (H : List Event) (e : Event) → with_change (by_number (states_of H)) (led_to e.actor e.step e.reply) ≡ by_number (states_of (H ++ e ∷ []))
+with_change-event : (H : List Event) (e : Event) → with_change (by_number (states_of H)) (led_to e.actor e.step e.reply) ≡ by_number (states_of (H ++ e ∷ []))
 with_change-event H e = with_change-more (states_of H) (led_to e.actor e.step e.reply) ∙ ap by_number (λ i v. more-event H e v i)
+
+-- and one more of a history
+pub read-more : (H : List Event) (n : ℕ) (e : Event) (old new : List (List State)) → n < length H → e ≡ get_or H n e
+    → old ≡ by_number (states_of (take n H)) → new ≡ with_change old (led_to e.actor e.step e.reply)
+    → new ≡ by_number (states_of (take (n + 1) H))
+read-more H n e old new low is before taken =
+    let further : take (n + 1) H ≡ take n H ++ e ∷ [] = take_more H n e low ∙ ap (λ f. take n H ++ f ∷ []) (sym is) in
+    taken
+    ∙ (ap (λ lists. with_change lists (led_to e.actor e.step e.reply)) before
+    ∙ (with_change-event (take n H) e ∙ ap (λ K. by_number (states_of K)) (sym further)))

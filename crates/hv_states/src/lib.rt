@@ -4,8 +4,11 @@
 //! state where it changes the state of a VCPU.
 #![tactic(auto)]
 
+mod history;
 mod led;
+mod print;
 mod vcpus;
 
+pub use history::push_states;
 pub use led::led_to;
 pub use vcpus::VcpuStates;

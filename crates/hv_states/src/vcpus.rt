@@ -1,12 +1,13 @@
 //! The states of all VCPUs.
-ghost use Rattle.std.specs.Prelude.{◌≡◌, IfOk, OnOk, OnErr, Some};
-ghost use Rattle.hv_model.specs.States.{first_states, led_to};
-ghost use Rattle.hv_states.specs.ByNumber.{by_number, with_change};
+ghost use Rattle.std.specs.Prelude.{◌≡◌, ◌++◌, IfOk, OnOk, OnErr, Some};
+ghost use Rattle.hv_model.specs.States.{first_states, led_to, states_shown};
+ghost use Rattle.hv_states.specs.ByNumber.{by_number, states_in, with_change};
 
 use crate::led::led_to;
+use crate::print::push_lines;
 use hv_event::Event;
 use hv_kinds::State;
-use hv_text::VCPUS;
+use hv_text::{Bytes, VCPUS};
 use std::alloc::{AllocError, Global};
 use std::marker::Model;
 
@@ -77,5 +78,13 @@ impl VcpuStates {
             Some((vcpu, state)) => self.add(vcpu, state),
             None => Ok(()),
         }
+    }
+    /// Appends a line for each VCPU that had a state, by number: with all of them, or briefly with
+    /// their number and the last one. When memory runs out, what was appended so far may stand.
+    pub fn push_text(&self, alloc: Global, to: &mut Bytes, brief: bool) -> Result<(), AllocError>
+        ensures { OnOk result (to.new ≡ to.old ++ states_shown brief (states_in self.now)) }
+    {
+        to.append(b"states\n")?;
+        push_lines(alloc, to, brief, &self.lists)
     }
 }
