@@ -1,0 +1,5 @@
+pub mod Lists
+pub mod Fetching
+pub mod Admitted
+pub mod Looking
+pub mod Loading
