@@ -1,6 +1,5 @@
 -- What stands behind the directory that admits a step.
-use Rattle.std.proofs.Common.{◌≡◌, ◌≤◌, ℕ, List, [], ◌∷◌, ◌++◌, map, length, refl, ap, sym, subst, ◌∙◌, arith, Option, None, Some}
-use Rattle.std.specs.Prelude.{IsSome}
+use Rattle.std.proofs.Common.{◌≡◌, ℕ, List, [], ◌∷◌, ◌++◌, map, length, ap, sym, subst, ◌∙◌, arith, Option, Some}
 use Rattle.std.specs.Result.{result_ok}
 use Rattle.hv_answer.specs.declared.reply.Reply.{Reply}
 use Rattle.hv_dir.specs.Directory.{DirState}
@@ -20,25 +19,12 @@ use Rattle.hv_rules.specs.Dir.{guest_in}
 use Rattle.hv_rules.specs.Footprint.{past_dir}
 use Rattle.hv_step.specs.declared.step.Step.{Step}
 use Rattle.hv_access_steps.specs.First.{behind}
-use Rattle.hv_access_steps.proofs.Lists.{others-of}
 
 -- The generation that a step shows tells what stands behind the directory.
 past-is : (shown : Option Generation) (xs : Generation → List CellId) (g : Generation) → shown ≡ Some g → past_dir shown xs ≡ component.Dir ∷ xs g
 past-is shown xs g is = ap (λ k. past_dir k xs) is
 
 module _ {P : Type 0} (f : P → PartValue) where
-  -- The components behind the directory are of their kinds.
-  pub behind-are : (shown : Option Generation) (xs : Generation → List CellId) (g : Generation) (ps front back : List P) → shown ≡ Some g → AreOf (past_dir shown xs) (map f ps)
-      → ps ≡ front ++ back → length front ≡ 1 → AreOf (xs g) (map f back)
-  behind-are shown xs g ps front back is are split long =
-      others-of f component.Dir (xs g) ps front back (subst (λ l. AreOf l (map f ps)) (past-is shown xs g is) are) split long
-
-  -- The directory is there.
-  pub first-there : (shown : Option Generation) (xs : Generation → List CellId) (ps : List P) → AreOf (past_dir shown xs) (map f ps) → 1 ≤ length ps
-  first-there None xs [] are = absurd are
-  first-there (Some g) xs [] are = absurd are
-  first-there shown xs (p ∷ ps) are = omega arith
-
   -- Their values are those behind its own.
   pub behind-is : (ps front back : List P) → ps ≡ front ++ back → length front ≡ 1 → behind (map f ps) ≡ map f back
   behind-is ps [] back split long = absurd (omega (arith, long))
@@ -60,9 +46,3 @@ module _ {P : Type 0} (f : P → PartValue) where
       (past-take by s r c name stage shown (λ h. xs g) (f p) (map f back) (map f back') (λ d there granted. takes d granted)
       (subst (λ l. IsAdmitted (map f l) name stage shown) split admitted)
       (subst (λ l. AreOf l (f p ∷ map f back)) same (subst (λ l. AreOf (past_dir shown xs) (map f l)) split are)) (λ h here. others)))
-
-  -- A list keeps what it is worth where what stands behind the first does.
-  pub kept-behind : (ps front back back' : List P) → ps ≡ front ++ back → length front ≡ 1 → map f back' ≡ map f back → map f (front ++ back') ≡ map f ps
-  kept-behind ps [] back back' split long same = absurd (omega (arith, long))
-  kept-behind ps (p ∷ q ∷ front) back back' split long same = absurd (omega (arith, long))
-  kept-behind ps (p ∷ []) back back' split long same = ap (λ vs. f p ∷ vs) same ∙ sym (ap (map f) split)

@@ -1,12 +1,10 @@
 -- Fetches, at a VCPU and a region that stand in one list.
-use Rattle.std.proofs.Common.{◌≡◌, ◌+◌, ◌≤◌, ℕ, List, [], ◌∷◌, ◌++◌, map, length, refl, ap, sym, subst, ◌∙◌, Option, None, Some}
+use Rattle.std.proofs.Common.{◌≡◌, ◌+◌, ◌≤◌, ℕ, List, [], ◌∷◌, map, length, refl, ap, sym, subst, ◌∙◌, Option, Some}
 use Rattle.std.specs.Prelude.{IsSomeAnd}
-use Rattle.hv_answer.specs.declared.reply.Reply.{Reply}
 use Rattle.hv_body.specs.Body.{seen}
 use Rattle.hv_body.specs.declared.live.Live.{Live}
 use Rattle.hv_emu.specs.Device.{DevState}
 use Rattle.hv_event.specs.declared.event.ActorId.TheVariants.{Hart}
-use Rattle.hv_event.specs.declared.event.CellId.{CellId}
 use Rattle.hv_event.specs.declared.event.CellId.TheVariants as component
 use Rattle.hv_handed.specs.Given.{given}
 use Rattle.hv_handed.specs.Told.{IsTold}

@@ -1,10 +1,10 @@
 -- Components that stand in one list, of which the first takes a step apart from the others.
-use Rattle.std.proofs.Common.{◌≡◌, ◌≤◌, ℕ, List, [], ◌∷◌, ◌++◌, map, length, slice_index_or, slice_set, refl, ap, sym, subst, ◌∙◌, arith, Option, None, Some}
+use Rattle.std.proofs.Common.{◌≡◌, List, [], ◌∷◌, ◌++◌, map, length, slice_index_or, slice_set, ap, sym, subst, ◌∙◌, arith, Option, None, Some}
 use Rattle.std.specs.Prelude.{IfOk, IfSome, Result, Ok, Err}
 use Rattle.hv_answer.specs.declared.reply.Reply.{Reply}
 use Rattle.hv_event.specs.declared.event.ActorId.{ActorId}
 use Rattle.hv_event.specs.declared.event.CellId.{CellId}
-use Rattle.hv_parts.specs.Kinds.{IsPartOf, AreOf}
+use Rattle.hv_parts.specs.Kinds.{AreOf}
 use Rattle.hv_parts.specs.Takes.{PartTakes, AllTake}
 use Rattle.hv_parts.specs.Value.{PartValue}
 use Rattle.hv_parts.proofs.Lists.{kept-as}
@@ -23,16 +23,6 @@ module _ {P : Type 0} (f : P → PartValue) where
   others-of x xs ps [] back are is long = absurd (omega (arith, long))
   others-of x xs ps (p ∷ q ∷ front) back are is long = absurd (omega (arith, long))
   others-of x xs ps (p ∷ []) back are is long = (subst (λ l. AreOf (x ∷ xs) (map f l)) is are).1
-
-  -- A component is there.
-  pub some-are : (x : CellId) (xs : List CellId) (ps : List P) → AreOf (x ∷ xs) (map f ps) → 1 ≤ length ps
-  some-are x xs [] are = absurd are
-  some-are x xs (p ∷ ps) are = omega arith
-
-  -- The one at the front is of its kind.
-  pub front-is : (x kind : CellId) (xs : List CellId) (ps : List P) (d : P) → ((v : PartValue) → IsPartOf x v → IsPartOf kind v) → AreOf (x ∷ xs) (map f ps) → IsPartOf kind (f (slice_index_or ps 0 d))
-  front-is x kind xs [] d same are = absurd are
-  front-is x kind xs (p ∷ ps) d same are = same (f p) are.0
 
 module _ {P : Type 0} (f : P → PartValue) (by : ActorId) (s : Step) (r : Reply) (c : Carry) where
   -- The first component takes a step, and so do the others.

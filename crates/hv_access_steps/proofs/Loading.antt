@@ -1,18 +1,17 @@
 -- Files that are loaded, at components that stand behind the files.
-use Rattle.std.proofs.Common.{◌≡◌, ℕ, List, [], ◌∷◌, ◌++◌, map, length, slice_index_or, refl, ap, sym, subst, ◌∙◌, arith, Option, None, Some}
+use Rattle.std.proofs.Common.{◌≡◌, ℕ, List, [], ◌∷◌, ◌++◌, map, length, slice_index_or, refl, ap, subst, ◌∙◌, arith, Option, Some}
 use Rattle.std.specs.Prelude.{Result, Ok, Err, IfErr}
 use Rattle.std.specs.Result.{result_ok}
 use Rattle.hv_answer.specs.declared.reply.Reply.{Reply}
 use Rattle.hv_answer.specs.declared.reply.Reply.TheVariants as replies
 use Rattle.hv_emu.specs.Device.{DevState}
-use Rattle.hv_event.specs.declared.event.ActorId.{ActorId}
 use Rattle.hv_event.specs.declared.event.CellId.{CellId}
 use Rattle.hv_event.specs.declared.event.CellId.TheVariants as component
 use Rattle.hv_files.specs.declared.refusal.FileRefusal.{FileRefusal}
 use Rattle.hv_handed.specs.Given.{given}
 use Rattle.hv_handed.specs.declared.told.Made.{Made}
 use Rattle.hv_model.specs.Files.{FileMap, GivesFile, answered, read_file}
-use Rattle.hv_parts.specs.Takes.{FilesTake, IsTakenAt}
+use Rattle.hv_parts.specs.Takes.{IsTakenAt}
 use Rattle.hv_parts.specs.Value.{PartValue, valued}
 use Rattle.hv_parts.specs.declared.part.Part.{Part}
 use Rattle.hv_parts.specs.declared.part.Part.TheVariants as part

@@ -1,18 +1,15 @@
 -- Looks and loads, at components that stand behind the directory.
-use Rattle.std.proofs.Common.{◌≡◌, ◌+◌, ◌≤◌, ℕ, List, [], ◌∷◌, ◌++◌, map, length, refl, ap, sym, subst, ◌∙◌, Option, None, Some}
+use Rattle.std.proofs.Common.{◌≡◌, ℕ, List, ◌∷◌, ◌++◌, map, length, refl, ap, sym, subst, ◌∙◌, Option, Some}
 use Rattle.std.specs.Prelude.{Result, Ok, Err}
 use Rattle.std.specs.Result.{result_ok}
 use Rattle.hv_answer.specs.declared.reply.Reply.{Reply}
 use Rattle.hv_answer.specs.declared.reply.Reply.TheVariants as replies
 use Rattle.hv_body.specs.Body.{seen}
 use Rattle.hv_body.specs.declared.live.Live.{Live}
-use Rattle.hv_dir.specs.Directory.{DirState}
 use Rattle.hv_emu.specs.Device.{DevState}
 use Rattle.hv_event.specs.declared.event.ActorId.{ActorId}
-use Rattle.hv_event.specs.declared.event.CellId.{CellId}
 use Rattle.hv_event.specs.declared.event.CellId.TheVariants as component
 use Rattle.hv_handed.specs.Given.{given}
-use Rattle.hv_handed.specs.Takes.{DirTakes}
 use Rattle.hv_handed.specs.declared.told.Made.{Made}
 use Rattle.hv_kinds.specs.declared.address.AddressType.TheVariants.{Memory}
 use Rattle.hv_kinds.specs.declared.generation.Generation.{Generation}
@@ -21,7 +18,7 @@ use Rattle.hv_memory_steps.specs.Ranges.{shown_range}
 use Rattle.hv_parts.specs.Admission.{IsAdmitted}
 use Rattle.hv_parts.specs.Kinds.{AreOf}
 use Rattle.hv_parts.specs.Takes.{AllTake, IsMadeAt, IsTakenAt}
-use Rattle.hv_parts.specs.Value.{PartValue, valued}
+use Rattle.hv_parts.specs.Value.{valued}
 use Rattle.hv_parts.specs.declared.part.Part.{Part}
 use Rattle.hv_parts.specs.declared.part.Part.TheVariants as part
 use Rattle.hv_refusal.specs.declared.refusal.Refusal.{Refusal}
@@ -32,7 +29,6 @@ use Rattle.hv_rules.specs.Dir.{Admits, guest_in}
 use Rattle.hv_rules.specs.Footprint.{past_dir, reached_by}
 use Rattle.hv_rules.specs.Windows.{window_at}
 use Rattle.hv_space.specs.Space.{SpaceState}
-use Rattle.hv_step.specs.declared.step.Load.{Load}
 use Rattle.hv_step.specs.declared.step.Mem.{Mem}
 use Rattle.hv_step.specs.declared.step.Step.TheVariants as steps
 use Rattle.hv_access_steps.specs.First.{area_first, window_first}
@@ -72,26 +68,6 @@ module _ {E : Type 0} (state : E → DevState) where
         (λ h. component.Space h.slot ∷ reached_by h window place) g ps front back back
         (λ d there. record { agrees = granted (guest_in d s.name stages.Made) s.generation g (λ why. replies.Mem (Err why)) made.reply (given state made.handed.value) is there; after = refl })
         is admitted are split long (behind.taken by));
-    alone = behind.alone;
-    told = behind.told;
-  }
-
-  -- And a load.
-  pub load-made : (harts : ℕ) (by : ActorId) (s : Load) (made : Made E) (g : Generation) (window : Option Window) (place : Option (ℕ × ℕ)) (ps front back back' : List (Part E))
-      → s.generation ≡ Some g → IsAdmitted (map (valued state) ps) s.name stages.Made s.generation
-      → AreOf (past_dir s.generation (λ g. component.Files ∷ component.Space g.slot ∷ reached_by g window place)) (map (valued state) ps) → ps ≡ front ++ back → length front ≡ 1
-      → (given state made.handed.value).window ≡ window → (given state made.handed.value).area ≡ place
-      → IsTakenAt state (component.Files ∷ component.Space g.slot ∷ reached_by g window place) (steps.Load s) made back back'
-      → IsMadeAt state harts by (past_dir s.generation (λ g. component.Files ∷ component.Space g.slot ∷ reached_by g window place)) (steps.Load s) made ps (front ++ back')
-  load-made harts by s made g window place ps front back back' is admitted are split long through at behind = record {
-    touched =
-        ap (λ w. past_dir s.generation (λ h. component.Files ∷ component.Space h.slot ∷ reached_by h w (given state made.handed.value).area)) through
-        ∙ ap (λ a. past_dir s.generation (λ h. component.Files ∷ component.Space h.slot ∷ reached_by h window a)) at;
-    taken =
-        admitted-take (valued state) by (steps.Load s) made.reply (given state made.handed.value) s.name stages.Made s.generation
-        (λ h. component.Files ∷ component.Space h.slot ∷ reached_by h window place) g ps front back back'
-        (λ d there. record { agrees = granted (guest_in d s.name stages.Made) s.generation g (λ why. replies.Load (Err why)) made.reply (given state made.handed.value) is there; after = refl })
-        is admitted are split long (behind.taken by);
     alone = behind.alone;
     told = behind.told;
   }

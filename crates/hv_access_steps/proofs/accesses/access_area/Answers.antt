@@ -1,4 +1,4 @@
-use Rattle.std.proofs.Common.{◌+◌, ◌∷◌, [], ◌∙◌, Some, ap, map, sym}
+use Rattle.std.proofs.Common.{◌∷◌, [], ◌∙◌, Some, ap, map, sym}
 use Rattle.hv_event.specs.declared.event.ActorId.TheVariants.{Hart}
 use Rattle.hv_event.specs.declared.event.CellId.TheVariants as component
 use Rattle.hv_handed.specs.Given.{given}

@@ -1,4 +1,4 @@
-use Rattle.std.proofs.Common.{◌∷◌, [], ◌∙◌, Some, map, ap, refl, sym}
+use Rattle.std.proofs.Common.{◌∙◌, map, ap, refl, sym}
 use Rattle.hv_event.specs.declared.event.CellId.TheVariants as component
 use Rattle.hv_handed.specs.Given.{given}
 use Rattle.hv_handed.proofs.Learnt.{alone-as}
