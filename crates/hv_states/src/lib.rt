@@ -7,6 +7,8 @@
 mod history;
 mod led;
 mod print;
+#[cfg(test)]
+mod tests;
 mod vcpus;
 
 pub use history::push_states;

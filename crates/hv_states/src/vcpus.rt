@@ -55,8 +55,7 @@ impl VcpuStates {
 
     // Adds a state to which a VCPU came. A number past those of VCPUs is left out.
     fn add(&mut self, vcpu: u8, state: State) -> Result<(), AllocError>
-        ensures ok { OnOk result
-            (self.new ≡ with_change self.old (Some (vcpu, state))) }
+        ensures ok { OnOk result (self.new ≡ with_change self.old (Some (vcpu, state))) }
         ensures err { OnErr result (self.new ≡ self.old) }
     {
         match self.lists.get_mut(usize::from(vcpu)) {
@@ -79,6 +78,7 @@ impl VcpuStates {
             None => Ok(()),
         }
     }
+
     /// Appends a line for each VCPU that had a state, by number: with all of them, or briefly with
     /// their number and the last one. When memory runs out, what was appended so far may stand.
     pub fn push_text(&self, alloc: Global, to: &mut Bytes, brief: bool) -> Result<(), AllocError>
