@@ -1,1 +1,3 @@
--- What the laws say.
+-- What the laws say, and who owns a guest.
+pub mod Lines
+pub mod Owners
