@@ -1,3 +1,4 @@
 pub mod Directory
 pub mod Windows
 pub mod Asks
+pub mod Steps
