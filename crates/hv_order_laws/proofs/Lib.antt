@@ -2,3 +2,5 @@ pub mod Directory
 pub mod Windows
 pub mod Asks
 pub mod Steps
+pub mod Making
+pub mod Ending

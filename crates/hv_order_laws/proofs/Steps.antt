@@ -25,7 +25,7 @@ use Rattle.hv_region.specs.declared.window.Window.{Window}
 use Rattle.hv_rules.specs.Body.{index_of}
 use Rattle.hv_rules.specs.Carry.{Carry}
 use Rattle.hv_rules.specs.Hart.{slot_of}
-use Rattle.hv_rules.specs.Line.{is_alias}
+use Rattle.hv_rules.specs.Line.{is_alias, learnt}
 use Rattle.hv_rules.specs.Shelf.{is_added}
 use Rattle.hv_rules.specs.Space.{refusal_in, target_of, unless_refused}
 use Rattle.hv_rules.specs.Windows.{Region, window_of}
@@ -88,10 +88,19 @@ VcpusBecome there after (step.Vadd x) c = (v : ℕ) → after v ≡ true → (th
 VcpusBecome there after (step.Vdrop x) c = (v : ℕ) → after v ≡ true → (there v ≡ true) × (x.vcpu ≡ suc v → ⊥)
 VcpusBecome there after _ c = (v : ℕ) → after v ≡ true → there v ≡ true
 
+-- from these replies a line learns no guest
+abbrev pub IsQuiet : Step → Reply → Carry → Type 0
+IsQuiet (step.Add x) r c = (guest : Option (ℕ × ℕ)) → learnt guest r c ≡ guest
+IsQuiet (step.Drop x) r c = (guest : Option (ℕ × ℕ)) → learnt guest r c ≡ guest
+IsQuiet (step.Vadd x) r c = (guest : Option (ℕ × ℕ)) → learnt guest r c ≡ guest
+IsQuiet (step.Vdrop x) r c = (guest : Option (ℕ × ℕ)) → learnt guest r c ≡ guest
+IsQuiet _ r c = Unit {0}
+
 pub record SceneStep (before after : Scene) (s : Step) (r : Reply) (c : Carry) : Type 0 where
   pub dir : DirBecomes before.dir after.dir s r c
   pub windows : (slot : ℕ) → WindowsBecome before.dir slot (before.windows slot) (after.windows slot) s r c
   pub vcpus : VcpusBecome before.is_there after.is_there s c
+  pub quiet : IsQuiet s r c
 
 -- the directory stays one
 
@@ -231,6 +240,20 @@ owned-row plans name region row count plan c row-is plan-is by-row by-plan own =
       row_is = ap (row_of plans name) called ∙ found;
     }
 
+-- a slot without a guest has nothing
+
+pub none-true : (b : Bool) → (b ≡ true → ⊥) → b ≡ false
+none-true true never = absurd (never refl)
+none-true false never = refl
+
+pub bare-slot : (plans : List Planned) (scene : Scene) (slot : ℕ) → SlotFits plans scene slot → name_at scene.dir slot ≡ None → (scene.windows slot ≡ []) × HasNoVcpu scene slot
+bare-slot plans scene slot fits none =
+    let name = name_at scene.dir slot in (
+      none-left (λ (w : Window). IsRowOf plans name w.target) (scene.windows slot) (λ w is. subst (λ (n : Option (List ℕ)). IsRowOf plans n w.target) none is) fits.windows,
+      λ v here. none-true (scene.is_there v) (λ is.
+      let below : index_of (suc v) < vcpus_by plans None = subst (λ (n : Option (List ℕ)). index_of (suc v) < vcpus_by plans n) none (fits.vcpus v here is) in omega (arith, below)),
+    )
+
 module _ (plans : List Planned) (before after : Scene) (s : Step) (r : Reply) (c : Carry) (ok : IsDirectory before.dir) (slot : ℕ) (fits : SlotFits plans before slot) where
   abbrev d : DirState
   d = before.dir
@@ -283,24 +306,17 @@ module _ (plans : List Planned) (before after : Scene) (s : Step) (r : Reply) (c
 
   -- the guest stays, or there is nothing in the slot
 
-  record IsBare (scene : Scene) : Type 0 where
-    windows : scene.windows slot ≡ []
-    vcpus : HasNoVcpu scene slot
-
-  is-none : (b : Bool) → (b ≡ true → ⊥) → b ≡ false
-  is-none true never = absurd (never refl)
-  is-none false never = refl
+  pub record IsBare (scene : Scene) : Type 0 where
+    pub windows : scene.windows slot ≡ []
+    pub vcpus : HasNoVcpu scene slot
 
   bare : name ≡ None → IsBare before
-  bare none = record {
-    windows = none-left (λ (w : Window). IsRowOf plans name w.target) (before.windows slot) (λ w is. subst (λ (n : Option (List ℕ)). IsRowOf plans n w.target) none is) fits.windows;
-    vcpus = λ v here. is-none (before.is_there v) (λ is. let below : index_of (suc v) < vcpus_by plans None = subst (λ (n : Option (List ℕ)). index_of (suc v) < vcpus_by plans n) none (fits.vcpus v here is) in omega (arith, below));
-  }
+  bare none = let both = bare-slot plans before slot fits none in record { windows = both.0; vcpus = both.1 }
 
   still-bare : after.windows slot ≡ before.windows slot → ((v : ℕ) → after.is_there v ≡ true → before.is_there v ≡ true) → IsBare before → IsBare after
   still-bare same was is = record {
     windows = same ∙ is.windows;
-    vcpus = λ v here. is-none (after.is_there v) (λ there. absurd (never (sym (was v there) ∙ is.vcpus v here)));
+    vcpus = λ v here. none-true (after.is_there v) (λ there. absurd (never (sym (was v there) ∙ is.vcpus v here)));
   }
     where
       never : true ≡ false → ⊥
