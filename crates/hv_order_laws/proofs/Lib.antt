@@ -4,3 +4,4 @@ pub mod Asks
 pub mod Steps
 pub mod Making
 pub mod Ending
+pub mod Lines
