@@ -5,3 +5,4 @@ pub mod Steps
 pub mod Making
 pub mod Ending
 pub mod Lines
+pub mod Begun

@@ -49,17 +49,17 @@ pub record LineStep (plans : List Planned) (before after : Scene) (owned : Optio
   pub own : (name : List ℕ) → owned_by line ≡ Some name → (owned ≡ Some name) ⊎ IsFree before.dir name
 
 -- a line that is kept owns what it owned
-kept-owned : (line : LineState) (name : List ℕ) → owned_by (kept line) ≡ Some name → owned_name line.asked ≡ Some name
+pub kept-owned : (line : LineState) (name : List ℕ) → owned_by (kept line) ≡ Some name → owned_name line.asked ≡ Some name
 kept-owned line name is =
     let Goal : List Ask → Type 0 = λ asks. owned_by (kept_for line asks) ≡ Some name → owned_name line.asked ≡ Some name in
     (elim (left line.place) as Goal [ [] ↦ (λ none. absurd (cc none)) | ask ∷ more ↦ (λ same. same) ]) is
 
 -- a line that is at its end makes no step
-no-next : (s : Step) → None ≡ Some s → ⊥
+pub no-next : (s : Step) → None ≡ Some s → ⊥
 no-next s is = cc
 
 module _ (plans : List Planned) (before after : Scene) (ok : IsDirectory before.dir) (r : Reply) (c : Carry) where
-  abbrev Steps : Option (List ℕ) → LineState → Step → Type 0
+  abbrev pub Steps : Option (List ℕ) → LineState → Step → Type 0
   Steps owned line s = SceneStep before after s r c → Goes plans line s r c → LineStep plans before after owned (kept (line_after line r c)) s c
 
   stays-owned : (line : LineState) (name : List ℕ) → owned_by (kept (line_after line r c)) ≡ Some name → (owned_name line.asked ≡ Some name) ⊎ IsFree before.dir name
