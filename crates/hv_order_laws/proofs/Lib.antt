@@ -6,3 +6,6 @@ pub mod Making
 pub mod Ending
 pub mod Lines
 pub mod Begun
+pub mod Scenes
+pub mod Births
+pub mod Events
