@@ -1,5 +1,5 @@
 -- An event is a step of what lines see.
-use Rattle.std.proofs.Common.{◌≡◌, ℕ, suc, ◌==◌, eq-eqb, eqb-true, ◌⊎◌, inl, inr, Bool, true, false, ◌||◌, refl, sym, ap, subst, ◌∙◌, List, [], ◌∷◌, ◌++◌, map, find, Option, None, Some, Ok, Err, option_map, is_some}
+use Rattle.std.proofs.Common.{◌≡◌, ℕ, suc, ◌==◌, eq-eqb, eqb-true, ◌⊎◌, inl, inr, Bool, true, false, ◌||◌, refl, sym, ap, subst, ◌∙◌, List, [], ◌∷◌, ◌++◌, map, find, Option, None, Some, Ok, Err, option_map, is_some, Result}
 use Rattle.std.specs.List.{AllByRecursion, list_any}
 use Rattle.std.specs.Option.{option_map_or}
 use Rattle.std.specs.Prelude.{IsSomeAnd}
@@ -26,6 +26,9 @@ use Rattle.hv_refusal.specs.declared.refusal.Refusal.{Refusal}
 use Rattle.hv_region.specs.declared.plan.RegionPlan.{RegionPlan}
 use Rattle.hv_region.specs.declared.window.Window.{Window}
 use Rattle.hv_rules.specs.Carry.{Carry}
+use Rattle.hv_dir.specs.Directory.{guest_at}
+use Rattle.hv_dir.specs.declared.refusal.DirRefusal.{DirRefusal}
+use Rattle.hv_rules.specs.Dir.{admitted as dir_admitted}
 use Rattle.hv_rules.specs.Dir.{Admits, DirAgrees, changed, dir_after, generation_of, guest_in, with_region}
 use Rattle.hv_rules.specs.Footprint.{all_queues, changed_body, components, if_made}
 use Rattle.hv_rules.specs.Line.{learnt}
@@ -83,3 +86,138 @@ module _ (harts : ℕ) (by : ActorId) where
   other-slot : (slot : ℕ) (g : Generation) (b : Bool) → b ≡ false → ((slot == g.slot) || b) ≡ false → slot ≡ g.slot → ⊥
   other-slot slot g b none is same =
       let never : true ≡ false = sym (eq-eqb slot g.slot same) ∙ sym (or-false (slot == g.slot)) ∙ ap (λ (y : Bool). (slot == g.slot) || y) (sym none) ∙ is in cc
+
+  -- an addition
+
+  module _ (d : DirState) (name region : List ℕ) (stage : Stage) (r : Reply) (c : Carry) where
+    abbrev adds : Option Generation → Step
+    adds given = step.Add (record { name = name; region = region; stage = stage; generation = given })
+
+    abbrev AddedIn : (slot : ℕ) → List Window → List Window → Type 0
+    AddedIn slot ws after = (after ≡ ws) ⊎ Added d slot ws after name stage r c
+
+    abbrev AdmitsAdd : Option Generation → Type 0
+    AdmitsAdd given = Admits (with_region c.row (guest_in d name stage)) given (λ why. reply.Add (Err why)) r c
+
+    -- what isn't refused has no reason to be
+    not-stopped : (stopped : Option Refusal) (devices : List DevState) (plan : RegionPlan × ℕ) → is_added r ≡ true → Gives (unless_stopped stopped (device_for devices plan.0.form)) r c → stopped ≡ None
+    not-stopped None devices plan added gives = refl
+    not-stopped (Some why) devices plan added gives = absurd (let never : true ≡ false = sym added ∙ ap is_added gives.0 in cc)
+
+    made-at : (slot : ℕ) (g : Generation) (devices : List DevState) (space : SpaceState) (row : Option ℕ) (plan : Option (RegionPlan × ℕ)) → slot ≡ g.slot → c.row ≡ row → c.plan ≡ plan → is_added r ≡ true
+        → IsSomeAnd (region_of (Some g) row plan) (λ region. AgreesToAdd space.windows region c)
+        → Admits (with_region row (guest_in d name stage)) (Some g) (λ why. reply.Add (Err why)) r c
+        → IsSomeAnd plan (λ plan. Gives (unless_stopped c.stopped (device_for devices plan.0.form)) r c)
+        → AddedIn slot space.windows (option_map_or (space_with space c.target) (region_of (Some g) row plan) space).windows
+    made-at slot g devices space None plan here row-is plan-is added agreed admitted shelf = absurd agreed
+    made-at slot g devices space (Some row) None here row-is plan-is added agreed admitted shelf = absurd agreed
+    made-at slot g devices space (Some row) (Some plan) here row-is plan-is added agreed admitted shelf = inr (record {
+      guest = g;
+      in_slot = sym here;
+      admitted = admits d name stage row g (λ why. reply.Add (Err why)) r c admitted;
+      region = record { birth = g.birth; row = row; plan = plan.0; vcpus = plan.1 };
+      count = plan.1;
+      row = row-is;
+      plan = plan-is;
+      free = sym agreed.0 ∙ not-stopped c.stopped devices plan added shelf;
+      target = agreed.1;
+      after_is = refl;
+      added = added;
+    })
+
+  add-at : (d : DirState) (name region : List ℕ) (stage : Stage) (r : Reply) (c : Carry) (slot : ℕ) (g : Generation) (devices : List DevState) (space : SpaceState) → slot ≡ g.slot
+      → SpaceAgrees space (adds d name region stage r c (Some g)) r c → AdmitsAdd d name region stage r c (Some g) → ShelfAgrees devices (adds d name region stage r c (Some g)) r c
+      → AddedIn d name region stage r c slot space.windows (space_after space (adds d name region stage r c (Some g)) r c).windows
+  add-at d name region stage (reply.Add (Ok changes)) c slot g devices space here agreed admitted shelf =
+      made-at d name region stage (reply.Add (Ok changes)) c slot g devices space c.row c.plan here refl refl refl agreed admitted shelf
+  add-at d name region stage _ c slot g devices space here agreed admitted shelf = inl refl
+
+  windows-add : (d after-dir : DirState) (devices after-devices : List DevState) (space after : SpaceState) (slot : ℕ) (name region : List ℕ) (stage : Stage) (given : Option Generation) (r : Reply) (c : Carry)
+      → Becomes (touched component.Dir (adds d name region stage r c given) r c) (DirAgrees d (adds d name region stage r c given) r c) (dir_after d (adds d name region stage r c given) r c) d after-dir
+      → Becomes (touched component.Shelf (adds d name region stage r c given) r c) (ShelfAgrees devices (adds d name region stage r c given) r c) (shelf_after devices (adds d name region stage r c given) r c) devices after-devices
+      → Becomes (touched (component.Space slot) (adds d name region stage r c given) r c) (SpaceAgrees space (adds d name region stage r c given) r c) (space_after space (adds d name region stage r c given) r c) space after
+      → AddedIn d name region stage r c slot space.windows after.windows
+  windows-add d after-dir devices after-devices space after slot name region stage None r c dir shelf becomes = inl (ap (λ (y : SpaceState). y.windows) becomes)
+  windows-add d after-dir devices after-devices space after slot name region stage (Some g) r c dir shelf becomes =
+      let x = adds d name region stage r c (Some g) in
+      after-step (λ (y : SpaceState). AddedIn d name region stage r c slot space.windows y.windows) (touched (component.Space slot) x r c) (SpaceAgrees space x r c) (space_after space x r c) space after becomes
+      (λ t ok. add-at d name region stage r c slot g devices space (own-slot slot g _ (no-made slot g r c.row c.target) t) ok dir.0 shelf.0)
+      (λ t. inl refl)
+
+  -- a removal
+
+  module _ (d : DirState) (name region : List ℕ) (stage : Stage) (c : Carry) where
+    abbrev drops : Option Generation → Step
+    drops given = step.Drop (record { name = name; region = region; stage = stage; generation = given })
+
+    abbrev DroppedIn : (slot : ℕ) → List Window → List Window → Type 0
+    DroppedIn slot ws after = Dropped d slot ws after name stage c ⊎ HadNone d slot ws after name stage c
+
+    abbrev AdmitsDrop : Option ℕ → Option Generation → Reply → Type 0
+    AdmitsDrop row given r = Admits (with_region row (guest_in d name stage)) given (λ why. reply.Drop (Err why)) r c
+
+    -- the guest that is admitted is shown
+    shown-is : (row : ℕ) (e : Entry) (given : Option Generation) (r : Reply) → entry_of d name ≡ Some e → e.stage ≡ stage → AdmitsDrop (Some row) given r → given ≡ Some (generation_of (e.slot, e.birth))
+    shown-is row e given r of staged admitted =
+        let found = subst (λ (x : Stage). guest_at d name x ≡ Ok (e.slot, e.birth)) staged (is-given d name e of) in
+        subst (λ (g : Result (ℕ × ℕ) DirRefusal). Admits (with_region (Some row) (dir_admitted g)) given (λ why. reply.Drop (Err why)) r c) found admitted
+
+    elsewhere : (slot : ℕ) (given : Option Generation) (r : Reply) (space : SpaceState) → AdmitsDrop c.row given r → ((g : Generation) → given ≡ Some g → slot ≡ g.slot → ⊥)
+        → HadNone d slot space.windows space.windows name stage c
+    elsewhere slot given r space admitted other = record {
+      after_is = refl;
+      none = λ row e row-is of staged here.
+          let shown = shown-is row e given r of staged (subst (λ (o : Option ℕ). AdmitsDrop o given r) row-is admitted) in
+          absurd (other (generation_of (e.slot, e.birth)) shown (sym here));
+    }
+
+    owner-else : (row k : ℕ) (ws : List Window) → Some row ≡ Some k → find (is_of row) ws ≡ None → AllByRecursion (λ w. w.owner ≡ k → ⊥) ws
+    owner-else row k ws same none =
+        all-map (λ (w : Window). is_of row w ≡ false) (λ (w : Window). w.owner ≡ k → ⊥) ws
+        (λ w isnt is. let never : true ≡ false = sym (eq-eqb w.owner row (is ∙ sym (same_Some row k same))) ∙ isnt in cc) (none-found (is_of row) ws none)
+
+    at-row : (slot : ℕ) (g : Generation) (space : SpaceState) (row : Option ℕ) (found : Option Window) (r : Reply) → slot ≡ g.slot → c.row ≡ row
+        → IsSomeAnd row (λ row. (find (is_of row) space.windows ≡ found) × AgreesToDrop found r c.target) → AdmitsDrop row (Some g) r
+        → DroppedIn slot space.windows (space_after space (drops (Some g)) r c).windows
+    at-row slot g space None found r here row-is agreed admitted = absurd agreed
+    at-row slot g space (Some row) None r here row-is agreed admitted =
+        inr (record {
+          after_is = ap (λ (x : Reply). (space_after space (drops (Some g)) x c).windows) agreed.1.0;
+          none = λ k e is of staged there. owner-else row k space.windows (sym row-is ∙ is) agreed.0;
+        })
+    at-row slot g space (Some row) (Some w) (reply.Drop (Ok changes)) here row-is agreed admitted =
+        inl (record {
+          guest = g;
+          in_slot = sym here;
+          admitted = admits d name stage row g (λ why. reply.Drop (Err why)) (reply.Drop (Ok changes)) c admitted;
+          row = row;
+          row_is = row-is;
+          after_is = ap (λ (o : Option ℕ). (option_map_or (without_region space) o space).windows) row-is;
+        })
+    at-row slot g space (Some row) (Some w) _ here row-is agreed admitted = absurd (let never = agreed.1.0 in cc never)
+
+    row-found : (ws : List Window) (row : Option ℕ) (r : Reply) (target : Option (ℕ × ℕ)) → IsSomeAnd row (λ row. AgreesToDrop (find (is_of row) ws) r target) → (k : ℕ) × (row ≡ Some k)
+    row-found ws None r target agreed = absurd agreed
+    row-found ws (Some k) r target agreed = (k, refl)
+
+  drop-at : (d : DirState) (name region : List ℕ) (stage : Stage) (c : Carry) (slot : ℕ) (g : Generation) (space : SpaceState) (r : Reply) → slot ≡ g.slot
+      → SpaceAgrees space (drops d name region stage c (Some g)) r c → AdmitsDrop d name region stage c c.row (Some g) r
+      → DroppedIn d name region stage c slot space.windows (space_after space (drops d name region stage c (Some g)) r c).windows
+  drop-at d name region stage c slot g space r here agreed admitted =
+      let found = row-found d name region stage c space.windows c.row r c.target agreed in
+      let at : AgreesToDrop (find (is_of found.0) space.windows) r c.target = subst (λ (o : Option ℕ). IsSomeAnd o (λ row. AgreesToDrop (find (is_of row) space.windows) r c.target)) found.1 agreed in
+      at-row d name region stage c slot g space (Some found.0) (find (is_of found.0) space.windows) r here found.1 (refl, at) (subst (λ (o : Option ℕ). AdmitsDrop d name region stage c o (Some g) r) found.1 admitted)
+
+  windows-drop : (d after-dir : DirState) (space after : SpaceState) (slot : ℕ) (name region : List ℕ) (stage : Stage) (given : Option Generation) (r : Reply) (c : Carry)
+      → Becomes (touched component.Dir (drops d name region stage c given) r c) (DirAgrees d (drops d name region stage c given) r c) (dir_after d (drops d name region stage c given) r c) d after-dir
+      → Becomes (touched (component.Space slot) (drops d name region stage c given) r c) (SpaceAgrees space (drops d name region stage c given) r c) (space_after space (drops d name region stage c given) r c) space after
+      → DroppedIn d name region stage c slot space.windows after.windows
+  windows-drop d after-dir space after slot name region stage None r c dir becomes =
+      inr (subst (λ (y : SpaceState). HadNone d slot space.windows y.windows name stage c) (sym becomes)
+      (elsewhere d name region stage c slot None r space dir.0 (λ g is here. let never : None ≡ Some g = is in cc)))
+  windows-drop d after-dir space after slot name region stage (Some g) r c dir becomes =
+      let x = drops d name region stage c (Some g) in
+      after-step (λ (y : SpaceState). DroppedIn d name region stage c slot space.windows y.windows) (touched (component.Space slot) x r c) (SpaceAgrees space x r c) (space_after space x r c) space after becomes
+      (λ t ok. drop-at d name region stage c slot g space r (own-slot slot g _ (no-made slot g r c.row c.target) t) ok dir.0)
+      (λ t. inr (elsewhere d name region stage c slot (Some g) r space dir.0
+      (λ h is here. other-slot slot g _ (no-made slot g r c.row c.target) t (here ∙ ap (λ (y : Generation). y.slot) (sym (same_Some g h is))))))
