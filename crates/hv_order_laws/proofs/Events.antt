@@ -15,7 +15,7 @@ use Rattle.hv_event.specs.declared.event.CellId.TheVariants as component
 use Rattle.hv_kinds.specs.declared.generation.Generation.{Generation}
 use Rattle.hv_kinds.specs.declared.stage.Stage.{Stage}
 use Rattle.hv_laws.specs.Board.{Becomes}
-use Rattle.hv_laws.proofs.Frame.{after-step, or-false}
+use Rattle.hv_laws.proofs.Frame.{after-step, or-false, or-true, touched as touched-by}
 use Rattle.hv_laws.proofs.Legal.{cell-becomes}
 use Rattle.hv_machine.specs.Machine.{MayHappen, State, next_state, touches}
 use Rattle.hv_model.specs.Cell.{Actor, Component, same_cell}
@@ -24,6 +24,7 @@ use Rattle.hv_model.specs.Origin.{Origin}
 use Rattle.hv_model.specs.Rules.{machine}
 use Rattle.hv_refusal.specs.declared.refusal.Refusal.{Refusal}
 use Rattle.hv_region.specs.declared.plan.RegionPlan.{RegionPlan}
+use Rattle.hv_region.specs.declared.plan.VcpuPlan.{VcpuPlan}
 use Rattle.hv_region.specs.declared.window.Window.{Window}
 use Rattle.hv_rules.specs.Carry.{Carry}
 use Rattle.hv_dir.specs.Directory.{guest_at}
@@ -43,7 +44,7 @@ use Rattle.hv_vcpu.specs.Vcpu.{VcpuValue, birth_of}
 use Rattle.hv_order_laws.specs.Owners.{Scene}
 use Rattle.hv_order_laws.proofs.Births.{Adds, Turns, drops-birth, vcpu-birth}
 use Rattle.hv_order_laws.proofs.Directory.{Claims, IsAdmitted, Stays, Turns as StageTurns, admits, is-given, name-cases, stage-cases}
-use Rattle.hv_order_laws.proofs.Steps.{Added, DirBecomes, Dropped, HadNone, IsQuiet, SceneStep, VcpusBecome, WindowsBecome}
+use Rattle.hv_order_laws.proofs.Steps.{Added, DirBecomes, Dropped, HadNone, IsNewVcpu, IsQuiet, SceneStep, VcpusBecome, WindowsBecome}
 use Rattle.hv_order_laws.proofs.Windows.{all-map, none-found}
 
 -- the directory
@@ -221,3 +222,185 @@ module _ (harts : ℕ) (by : ActorId) where
       (λ t ok. drop-at d name region stage c slot g space r (own-slot slot g _ (no-made slot g r c.row c.target) t) ok dir.0)
       (λ t. inr (elsewhere d name region stage c slot (Some g) r space dir.0
       (λ h is here. other-slot slot g _ (no-made slot g r c.row c.target) t (here ∙ ap (λ (y : Generation). y.slot) (sym (same_Some g h is))))))
+
+  -- the windows of a slot
+
+  windows-become : (d after-dir : DirState) (devices after-devices : List DevState) (space after : SpaceState) (slot : ℕ) (x : Step) (r : Reply) (c : Carry)
+      → Becomes (touched component.Dir x r c) (DirAgrees d x r c) (dir_after d x r c) d after-dir
+      → Becomes (touched component.Shelf x r c) (ShelfAgrees devices x r c) (shelf_after devices x r c) devices after-devices
+      → Becomes (touched (component.Space slot) x r c) (SpaceAgrees space x r c) (space_after space x r c) space after
+      → WindowsBecome d slot space.windows after.windows x r c
+  windows-become d after-dir devices after-devices space after slot (step.Add x) r c dir shelf becomes =
+      windows-add d after-dir devices after-devices space after slot x.name x.region x.stage x.generation r c dir shelf becomes
+  windows-become d after-dir devices after-devices space after slot (step.Drop x) r c dir shelf becomes =
+      windows-drop d after-dir space after slot x.name x.region x.stage x.generation r c dir becomes
+  windows-become d after-dir devices after-devices space after slot x r c dir shelf becomes =
+      after-step (λ (y : SpaceState). y.windows ≡ space.windows) (touched (component.Space slot) x r c) (SpaceAgrees space x r c) (space_after space x r c) space after becomes (λ t ok. refl) (λ t. refl)
+
+  -- which VCPUs are there
+
+  abbrev is_here : VcpuValue → Bool
+  is_here v = is_some (birth_of v)
+
+  some-none : (o : Option ℕ) → o ≡ None → is_some o ≡ true → ⊥
+  some-none o none is = let never : false ≡ true = sym (ap is_some none) ∙ is in cc
+
+  any-last : (k : CellId) (xs : List CellId) (y : CellId) → same_cell (Component k) (Component y) ≡ true → list_any (same_cell (Component k)) (map Component (xs ++ y ∷ [])) ≡ true
+  any-last k [] y same = or-true (same_cell (Component k) (Component y)) false same
+  any-last k (x ∷ xs) y same = right-true (same_cell (Component k) (Component x)) (any-last k xs y same)
+    where
+      right-true : (a : Bool) {b : Bool} → b ≡ true → (a || b) ≡ true
+      right-true true is = refl
+      right-true false is = is
+
+  abbrev VcpuBecomes : (n : ℕ) (before after : VcpuValue) → Step → Reply → Carry → Type 0
+  VcpuBecomes n before after x r c = Becomes (touched (component.Vcpu n) x r c) (VcpuAgrees by before x r c) (vcpu_after by before x r c) before after
+
+  given-vcpu : (y : VcpuValue) (birth vcpu v : ℕ) (given : Option (ℕ × VcpuPlan)) (r : Reply) → vcpu ≡ suc v → AgreesToAddVcpu y birth given r → IsNewVcpu vcpu v given
+  given-vcpu y birth vcpu v None r is agreed = absurd agreed
+  given-vcpu y birth vcpu v (Some plan) r is agreed = record { is = is; plan = plan; given_is = refl }
+
+  still-here : (before : VcpuValue) (x : Step) (r : Reply) (c : Carry) → ((birth : Option ℕ) → Adds x birth → ⊥) → VcpuAgrees by before x r c → is_here (vcpu_after by before x r c) ≡ true → is_here before ≡ true
+  still-here before x r c never agreed is = elim (vcpu-birth by before x r c agreed) [
+    | inl same ↦ sym (ap is_some same) ∙ is
+    | inr more ↦ elim more [
+      | inl none ↦ absurd (some-none (birth_of (vcpu_after by before x r c)) none is)
+      | inr adds ↦ absurd (never (birth_of (vcpu_after by before x r c)) adds)
+    ]
+  ]
+
+  vcpus-become : (before after : ℕ → VcpuValue) (x : Step) (r : Reply) (c : Carry) → ((n : ℕ) → VcpuBecomes n (before n) (after n) x r c)
+      → VcpusBecome (λ v. is_here (before (suc v))) (λ v. is_here (after (suc v))) x c
+  vcpus-become before after (step.Vadd x) r c becomes = λ v.
+      after-step (λ (y : VcpuValue). is_here y ≡ true → (is_here (before (suc v)) ≡ true) ⊎ IsNewVcpu x.vcpu v c.vcpu)
+      (touched (component.Vcpu (suc v)) (step.Vadd x) r c) (VcpuAgrees by (before (suc v)) (step.Vadd x) r c) (vcpu_after by (before (suc v)) (step.Vadd x) r c) (before (suc v)) (after (suc v)) (becomes (suc v))
+      (λ t ok is. inr (given-vcpu (before (suc v)) x.birth x.vcpu v c.vcpu r (sym (eqb-true (suc v) x.vcpu (sym (or-false (suc v == x.vcpu)) ∙ t))) ok))
+      (λ t is. inl is)
+  vcpus-become before after (step.Vdrop x) r c becomes = λ v.
+      after-step (λ (y : VcpuValue). is_here y ≡ true → (is_here (before (suc v)) ≡ true) × (x.vcpu ≡ suc v → ⊥))
+      (touched (component.Vcpu (suc v)) (step.Vdrop x) r c) (VcpuAgrees by (before (suc v)) (step.Vdrop x) r c) (vcpu_after by (before (suc v)) (step.Vdrop x) r c) (before (suc v)) (after (suc v)) (becomes (suc v))
+      (λ t ok is. absurd (some-none (birth_of (vcpu_after by (before (suc v)) (step.Vdrop x) r c)) (drops-birth (before (suc v))) is))
+      (λ t is. (
+        is,
+        λ same.
+            let hit : touched (component.Vcpu (suc v)) (step.Vdrop x) r c ≡ true = any-last (component.Vcpu (suc v)) (all_queues harts) (component.Vcpu x.vcpu) (eq-eqb (suc v) x.vcpu (sym same)) in
+            let never : true ≡ false = sym hit ∙ t in cc,
+      ))
+  vcpus-become before after x r c becomes = λ v.
+      after-step (λ (y : VcpuValue). is_here y ≡ true → is_here (before (suc v)) ≡ true)
+      (touched (component.Vcpu (suc v)) x r c) (VcpuAgrees by (before (suc v)) x r c) (vcpu_after by (before (suc v)) x r c) (before (suc v)) (after (suc v)) (becomes (suc v))
+      (λ t ok is. still-here (before (suc v)) x r c (λ birth adds. adds) ok is)
+      (λ t is. is)
+
+  -- from these replies a line learns no guest
+
+  abbrev Quiet : Reply → Carry → Type 0
+  Quiet r c = (guest : Option (ℕ × ℕ)) → learnt guest r c ≡ guest
+
+  quiet-refused : (found : Result Generation Refusal) (refused : Refusal → Reply) (r : Reply) (c : Carry) → ((why : Refusal) → Quiet (refused why) c) → Admits found None refused r c → Quiet r c
+  quiet-refused (Ok g) refused r c quiet admitted = absurd (let never : None ≡ Some g = admitted in cc)
+  quiet-refused (Err why) refused r c quiet admitted = subst (λ (x : Reply). Quiet x c) (sym admitted.1) (quiet why)
+
+  added-quiet : (r : Reply) (c : Carry) → is_added r ≡ true → Quiet r c
+  added-quiet (reply.Add (Ok changes)) c added = λ guest. refl
+  added-quiet (reply.Add (Err why)) c added = absurd (cc added)
+  added-quiet _ c added = absurd (cc added)
+
+  dropped-quiet : (r : Reply) (c : Carry) → is_dropped r ≡ true → Quiet r c
+  dropped-quiet (reply.Drop (Ok changes)) c dropped = λ guest. refl
+  dropped-quiet (reply.Drop (Err why)) c dropped = absurd (cc dropped)
+  dropped-quiet _ c dropped = absurd (cc dropped)
+
+  gives-quiet : (given : Result (Option DevState) Refusal) (r : Reply) (c : Carry) → Gives given r c → Quiet r c
+  gives-quiet (Ok device) r c gives = added-quiet r c gives.0
+  gives-quiet (Err why) r c gives = subst (λ (x : Reply). Quiet x c) (sym gives.0) (λ guest. refl)
+
+  plan-quiet : (plan : Option (RegionPlan × ℕ)) (devices : List DevState) (stopped : Option Refusal) (r : Reply) (c : Carry) → IsSomeAnd plan (λ plan. Gives (unless_stopped stopped (device_for devices plan.0.form)) r c) → Quiet r c
+  plan-quiet None devices stopped r c gives = absurd gives
+  plan-quiet (Some plan) devices stopped r c gives = gives-quiet (unless_stopped stopped (device_for devices plan.0.form)) r c gives
+
+  add-quiet : (d after-dir : DirState) (devices after-devices : List DevState) (name region : List ℕ) (stage : Stage) (given : Option Generation) (r : Reply) (c : Carry)
+      → Becomes (touched component.Dir (adds d name region stage r c given) r c) (DirAgrees d (adds d name region stage r c given) r c) (dir_after d (adds d name region stage r c given) r c) d after-dir
+      → Becomes (touched component.Shelf (adds d name region stage r c given) r c) (ShelfAgrees devices (adds d name region stage r c given) r c) (shelf_after devices (adds d name region stage r c given) r c) devices after-devices
+      → Quiet r c
+  add-quiet d after-dir devices after-devices name region stage None r c dir shelf = quiet-refused (with_region c.row (guest_in d name stage)) (λ why. reply.Add (Err why)) r c (λ why guest. refl) dir.0
+  add-quiet d after-dir devices after-devices name region stage (Some g) r c dir shelf = plan-quiet c.plan devices c.stopped r c shelf.0
+
+  window-quiet : (found : Option Window) (r : Reply) (c : Carry) → AgreesToDrop found r c.target → Quiet r c
+  window-quiet None r c agreed = subst (λ (x : Reply). Quiet x c) (sym agreed.0) (λ guest. refl)
+  window-quiet (Some w) r c agreed = dropped-quiet r c agreed.0
+
+  row-quiet : (row : Option ℕ) (space : SpaceState) (r : Reply) (c : Carry) → IsSomeAnd row (λ row. AgreesToDrop (find (is_of row) space.windows) r c.target) → Quiet r c
+  row-quiet None space r c agreed = absurd agreed
+  row-quiet (Some row) space r c agreed = window-quiet (find (is_of row) space.windows) r c agreed
+
+  drop-quiet : (d after-dir : DirState) (spaces after : ℕ → SpaceState) (name region : List ℕ) (stage : Stage) (given : Option Generation) (r : Reply) (c : Carry)
+      → Becomes (touched component.Dir (drops d name region stage c given) r c) (DirAgrees d (drops d name region stage c given) r c) (dir_after d (drops d name region stage c given) r c) d after-dir
+      → ((slot : ℕ) → Becomes (touched (component.Space slot) (drops d name region stage c given) r c) (SpaceAgrees (spaces slot) (drops d name region stage c given) r c) (space_after (spaces slot) (drops d name region stage c given) r c) (spaces slot) (after slot))
+      → Quiet r c
+  drop-quiet d after-dir spaces after name region stage None r c dir becomes = quiet-refused (with_region c.row (guest_in d name stage)) (λ why. reply.Drop (Err why)) r c (λ why guest. refl) dir.0
+  drop-quiet d after-dir spaces after name region stage (Some g) r c dir becomes =
+      let x = drops d name region stage c (Some g) in
+      let hit : touched (component.Space g.slot) x r c ≡ true = or-true (g.slot == g.slot) _ (eq-eqb g.slot g.slot refl) in
+      row-quiet c.row (spaces g.slot) r c (touched-by (touched (component.Space g.slot) x r c) (SpaceAgrees (spaces g.slot) x r c) (space_after (spaces g.slot) x r c) (spaces g.slot) (after g.slot) hit (becomes g.slot)).0
+
+  vadd-quiet : (y : VcpuValue) (birth : ℕ) (given : Option (ℕ × VcpuPlan)) (r : Reply) (c : Carry) → AgreesToAddVcpu y birth given r → Quiet r c
+  vadd-quiet y birth None r c agreed = absurd agreed
+  vadd-quiet y birth (Some plan) r c agreed = subst (λ (x : Reply). Quiet x c) (sym agreed) (λ guest. refl)
+
+  quiet-becomes : (d after-dir : DirState) (devices after-devices : List DevState) (spaces after : ℕ → SpaceState) (vcpus next : ℕ → VcpuValue) (x : Step) (r : Reply) (c : Carry)
+      → Becomes (touched component.Dir x r c) (DirAgrees d x r c) (dir_after d x r c) d after-dir
+      → Becomes (touched component.Shelf x r c) (ShelfAgrees devices x r c) (shelf_after devices x r c) devices after-devices
+      → ((slot : ℕ) → Becomes (touched (component.Space slot) x r c) (SpaceAgrees (spaces slot) x r c) (space_after (spaces slot) x r c) (spaces slot) (after slot))
+      → ((n : ℕ) → VcpuBecomes n (vcpus n) (next n) x r c)
+      → IsQuiet x r c
+  quiet-becomes d after-dir devices after-devices spaces after vcpus next (step.Add x) r c dir shelf space vcpu = add-quiet d after-dir devices after-devices x.name x.region x.stage x.generation r c dir shelf
+  quiet-becomes d after-dir devices after-devices spaces after vcpus next (step.Drop x) r c dir shelf space vcpu = drop-quiet d after-dir spaces after x.name x.region x.stage x.generation r c dir space
+  quiet-becomes d after-dir devices after-devices spaces after vcpus next (step.Vadd x) r c dir shelf space vcpu =
+      let s = step.Vadd x in
+      let hit : touched (component.Vcpu x.vcpu) s r c ≡ true = or-true (x.vcpu == x.vcpu) false (eq-eqb x.vcpu x.vcpu refl) in
+      vadd-quiet (vcpus x.vcpu) x.birth c.vcpu r c (touched-by (touched (component.Vcpu x.vcpu) s r c) (VcpuAgrees by (vcpus x.vcpu) s r c) (vcpu_after by (vcpus x.vcpu) s r c) (vcpus x.vcpu) (next x.vcpu) hit (vcpu x.vcpu)).0
+  quiet-becomes d after-dir devices after-devices spaces after vcpus next (step.Vdrop x) r c dir shelf space vcpu =
+      let s = step.Vdrop x in
+      let hit : touched (component.Vcpu x.vcpu) s r c ≡ true = any-last (component.Vcpu x.vcpu) (all_queues harts) (component.Vcpu x.vcpu) (eq-eqb x.vcpu x.vcpu refl) in
+      let agreed = (touched-by (touched (component.Vcpu x.vcpu) s r c) (VcpuAgrees by (vcpus x.vcpu) s r c) (vcpu_after by (vcpus x.vcpu) s r c) (vcpus x.vcpu) (next x.vcpu) hit (vcpu x.vcpu)).0 in
+      subst (λ (y : Reply). Quiet y c) (sym agreed) (λ guest. refl)
+  quiet-becomes d after-dir devices after-devices spaces after vcpus next _ r c dir shelf space vcpu = tt
+
+-- what lines see of a state
+
+abbrev pub scene_of : (O : Origin) → State (machine O) → Scene
+scene_of O s = record {
+  dir = (s (Component component.Dir)).value;
+  windows = λ slot. (s (Component (component.Space slot))).value.windows;
+  is_there = λ v. is_some (birth_of (s (Component (component.Vcpu (suc v)))).value);
+}
+
+module _ (O : Origin) (s : State (machine O)) (e : EventEntry) (may : MayHappen (machine O) s e) where
+  abbrev next : State (machine O)
+  next = next_state (machine O) s e
+
+  at-cell : (k : CellId) → Becomes (touches (machine O) (Component k) e) ((machine O).IsAllowedAt (Component k) (s (Component k)).value e) ((machine O).apply_at (Component k) (s (Component k)).value e) (s (Component k)).value (next (Component k)).value
+  at-cell k = cell-becomes (machine O) s e may (Component k)
+
+  pub scene-step : SceneStep (scene_of O s) (scene_of O next) e.event.step e.event.reply e.carry
+  scene-step =
+      let harts = O.opening.harts in
+      let by = e.event.actor in
+      let x = e.event.step in
+      let r = e.event.reply in
+      let c = e.carry in
+      let d = (s (Component component.Dir)).value in
+      let after-dir = (next (Component component.Dir)).value in
+      let devices = (s (Component component.Shelf)).value in
+      let after-devices = (next (Component component.Shelf)).value in
+      record {
+        dir = dir-becomes harts by d after-dir x r c (at-cell component.Dir);
+        windows = λ slot.
+            windows-become harts by d after-dir devices after-devices (s (Component (component.Space slot))).value (next (Component (component.Space slot))).value slot x r c
+            (at-cell component.Dir) (at-cell component.Shelf) (at-cell (component.Space slot));
+        vcpus = vcpus-become harts by (λ n. (s (Component (component.Vcpu n))).value) (λ n. (next (Component (component.Vcpu n))).value) x r c (λ n. at-cell (component.Vcpu n));
+        quiet = quiet-becomes harts by d after-dir devices after-devices (λ slot. (s (Component (component.Space slot))).value) (λ slot. (next (Component (component.Space slot))).value)
+            (λ n. (s (Component (component.Vcpu n))).value) (λ n. (next (Component (component.Vcpu n))).value) x r c
+            (at-cell component.Dir) (at-cell component.Shelf) (λ slot. at-cell (component.Space slot)) (λ n. at-cell (component.Vcpu n));
+      }
