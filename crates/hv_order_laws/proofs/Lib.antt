@@ -9,3 +9,6 @@ pub mod Begun
 pub mod Scenes
 pub mod Births
 pub mod Events
+pub mod Proper
+pub mod Harts
+pub mod Terminals

@@ -25,14 +25,14 @@ use Rattle.hv_rules.specs.Windows.{Region, has_range, region_of, window_of}
 
 -- lists of windows
 
-found-step : (P : Window → Type 0) (p : Window → Bool) (x w : Window) (rest : Option Window) (b : Bool) → p x ≡ b → P x
+found-step : {A : Type 0} (P : A → Type 0) (p : A → Bool) (x w : A) (rest : Option A) (b : Bool) → p x ≡ b → P x
     → (rest ≡ Some w → P w × (p w ≡ true)) → cond b (Some x) rest ≡ Some w → P w × (p w ≡ true)
 found-step P p x w rest true is here later found =
     let same : x ≡ w = same_Some x w found in
-    (subst P same here, subst (λ (y : Window). p y ≡ true) same is)
+    (subst P same here, subst (λ y. p y ≡ true) same is)
 found-step P p x w rest false is here later found = later found
 
-pub found-one : (P : Window → Type 0) (p : Window → Bool) (ws : List Window) (w : Window) → AllByRecursion P ws → find p ws ≡ Some w → P w × (p w ≡ true)
+pub found-one : {A : Type 0} (P : A → Type 0) (p : A → Bool) (ws : List A) (w : A) → AllByRecursion P ws → find p ws ≡ Some w → P w × (p w ≡ true)
 found-one P p [] w all found = absurd (cc found)
 found-one P p (x ∷ xs) w all found = found-step P p x w (find p xs) (p x) refl all.0 (λ is. found-one P p xs w all.1 is) found
 
