@@ -12,3 +12,4 @@ pub mod Events
 pub mod Proper
 pub mod Harts
 pub mod Terminals
+pub mod Legal
