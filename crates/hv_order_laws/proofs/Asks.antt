@@ -1,10 +1,9 @@
 -- The steps of lines, where they are begun.
-use Rattle.std.proofs.Common.{◌≡◌, ℕ, zero, suc, ◌+◌, ◌<◌, ◌≤◌, ◌⊎◌, inl, inr, Bool, true, false, not, ◌&&◌, if◌then◌else◌, cond, refl, sym, ap, subst, ◌∙◌, List, [], ◌∷◌, ◌++◌, append_assoc, replicate, Option, None, Some, slice_get, arith}
+use Rattle.std.proofs.Common.{◌≡◌, ℕ, zero, suc, ◌+◌, ◌<◌, ◌≤◌, ◌⊎◌, inl, inr, Bool, true, false, if◌then◌else◌, refl, sym, ap, subst, List, [], ◌∷◌, ◌++◌, append_assoc, replicate, Option, None, Some, slice_get, arith}
 use Rattle.std.specs.List.{AllByRecursion}
-use Rattle.hv_kinds.specs.declared.stage.Stage.{Stage}
 use Rattle.hv_kinds.specs.declared.stage.Stage.TheVariants.{Making, Made, Ending}
 use Rattle.hv_region.specs.declared.plan.RegionPlan.{RegionPlan}
-use Rattle.hv_rules.specs.Line.{Ask, Asked, Change, add, add_vcpu, change, claim, create, destroy, drop, drop_vcpu, each, each_vcpu, halt, has_device, is_built, is_built_alias, is_owned, kick, look, looks, of_rows, pause, reset, reset_device, rest, rests, resume, steps_of, turn}
+use Rattle.hv_rules.specs.Line.{Ask, Change, add, add_vcpu, change, claim, create, destroy, drop, drop_vcpu, each, each_vcpu, has_device, is_built, is_built_alias, is_owned, look, looks, of_rows, reset, reset_device, rest, rests, steps_of, turn}
 use Rattle.hv_text.specs.declared.limits.TheConstants.{GUEST_VCPUS, VCPUS}
 use Rattle.hv_order_laws.specs.Lines.{AddsRegions, AddsVcpus, ArePlain, Drops, IsAmong}
 

@@ -1,17 +1,14 @@
 -- Lines that are begun, and lines that make no guest and end none.
-use Rattle.std.proofs.Common.{◌≡◌, ℕ, zero, suc, ◌<◌, ◌≤◌, ◌⊎◌, inl, inr, Bool, true, false, refl, sym, ap, subst, ◌∙◌, List, [], ◌∷◌, length, Option, None, Some, Result, Ok, Err, is_some, arith}
+use Rattle.std.proofs.Common.{◌≡◌, ℕ, ◌≤◌, ◌⊎◌, inl, inr, Bool, true, false, refl, sym, ap, subst, ◌∙◌, List, [], ◌∷◌, length, Option, None, Some, is_some, arith}
 use Rattle.std.proofs.lemmas.Option.{same_Some}
 use Rattle.hv_answer.specs.declared.reply.Reply.{Reply}
-use Rattle.hv_answer.specs.declared.reply.Reply.TheVariants as reply
-use Rattle.hv_dir.specs.Directory.{DirState, entry_at, slot_of}
+use Rattle.hv_dir.specs.Directory.{entry_at, slot_of}
 use Rattle.hv_dir.specs.declared.entry.Entry.{Entry}
 use Rattle.hv_kinds.specs.declared.generation.Generation.{Generation}
-use Rattle.hv_kinds.specs.declared.stage.Stage.{Stage}
-use Rattle.hv_kinds.specs.declared.stage.Stage.TheVariants.{Making, Made, Ending}
+use Rattle.hv_kinds.specs.declared.stage.Stage.TheVariants.{Made, Ending}
 use Rattle.hv_model.specs.Plans.{Planned, plan_of, regions_in, regions_of, vcpus_in, vcpus_of}
 use Rattle.hv_model.specs.Session.{kept}
 use Rattle.hv_model.specs.Shown.{shown_in}
-use Rattle.hv_model.specs.Terminal.{Goes}
 use Rattle.hv_model.specs.Work.{line_of}
 use Rattle.hv_refusal.specs.declared.refusal.Refusal.{Refusal}
 use Rattle.hv_region.specs.declared.plan.GuestPlan.{GuestPlan}
@@ -24,11 +21,11 @@ use Rattle.hv_step.specs.declared.step.Step.{Step}
 use Rattle.hv_step.specs.declared.step.Step.TheVariants as step
 use Rattle.hv_text.specs.declared.limits.TheConstants.{GUEST_VCPUS}
 use Rattle.hv_order_laws.specs.Lines.{ArePlain}
-use Rattle.hv_order_laws.specs.Owners.{FitsAs, IsGuest, IsPlainAt, LineFits, Scene, SlotFits, owned_by, owned_name}
+use Rattle.hv_order_laws.specs.Owners.{FitsAs, IsDirectory, IsPlainAt, Scene, SlotFits, owned_by, owned_name}
 use Rattle.hv_order_laws.proofs.Asks.{makes-first, plain-each, plain-looks, plain-rests, to_end, to_make}
-use Rattle.hv_order_laws.proofs.Directory.{Claims, IsDirectory, Stands, Turns, named-stands, unused-name}
+use Rattle.hv_order_laws.proofs.Directory.{Stands, named-stands, unused-name}
 use Rattle.hv_order_laws.proofs.Ending.{AreLed, fits-turned}
-use Rattle.hv_order_laws.proofs.Lines.{IsFree, LineStep, SparesOthers, Steps, ending-step, kept-owned, making-step, no-next, step-is}
+use Rattle.hv_order_laws.proofs.Lines.{IsFree, Steps, ending-step, kept-owned, making-step, no-next, step-is}
 use Rattle.hv_order_laws.proofs.Making.{fits-claimed, kept-fits}
 use Rattle.hv_order_laws.proofs.Steps.{IsProper, SceneStep, Spares, same-entry}
 

@@ -1,5 +1,5 @@
 -- The directory by slots: what a step leaves at each, and where the guest with a name stands.
-use Rattle.std.proofs.Common.{◌≡◌, ℕ, zero, suc, ◌≤◌, ◌<◌, ◌⊎◌, inl, inr, Bool, true, false, cond, refl, sym, ap, subst, ◌∙◌, List, [], ◌∷◌, length, Option, None, Some, Result, Ok, Err, option_map, option_and_then, slice_get, set, get_or, is_none, is_some, replicate, position, arith, nat_lt}
+use Rattle.std.proofs.Common.{◌≡◌, ℕ, zero, suc, ◌≤◌, ◌<◌, ◌⊎◌, inl, inr, Bool, true, false, cond, refl, sym, ap, subst, ◌∙◌, List, [], ◌∷◌, length, Option, None, Some, Ok, Err, option_map, option_and_then, slice_get, set, get_or, is_none, is_some, replicate, position, arith, nat_lt}
 use Rattle.std.specs.List.{position_or_len}
 use Rattle.std.specs.Option.{option_flatten, ok_or}
 use Rattle.std.specs.Str.{bytes_eq}
@@ -24,11 +24,7 @@ use Rattle.std.specs.Result.{result_ok}
 use Rattle.hv_rules.specs.Dir.{Admits, DirAgrees, admitted, changed, dir_after, done, generation_of, guest_in, named, with_region}
 use Rattle.hv_step.specs.declared.step.Step.TheVariants as step
 use Rattle.hv_text.specs.declared.limits.TheConstants.{SLOTS}
-
--- each entry stands at its slot, and no two have one name
-pub record IsDirectory (d : DirState) : Type 0 where
-  pub placed : (k : ℕ) (e : Entry) → entry_at d k ≡ Some e → e.slot ≡ k
-  pub distinct : (j k : ℕ) (e f : Entry) → entry_at d j ≡ Some e → entry_at d k ≡ Some f → e.name ≡ f.name → j ≡ k
+use Rattle.hv_order_laws.specs.Owners.{IsDirectory}
 
 -- a place of a list
 
@@ -89,6 +85,7 @@ position-none p xs k x none at is =
   where
     no : true ≡ false → ⊥
     no e = cc
+
     beyond : (b : Bool) → nat_lt (position_or_len p xs) (length xs) ≡ b → cond b (Some (position_or_len p xs)) None ≡ None → length xs ≤ position_or_len p xs
     beyond true is e = absurd (cc e)
     beyond false is e = grind (arith, nat_tests)
@@ -327,8 +324,7 @@ claims-keep d name r after ok claims =
     let new = new_guest d name claims.slot in
     subst IsDirectory (sym claims.after_is) (keeps-directory d claims.slot None (Some new) _ ok claims.free
     (λ e is.
-    let same : new ≡ e = some-entry new e is in
-    (
+    let same : new ≡ e = some-entry new e is in (
       sym (ap (λ (x : Entry). x.slot) same),
       λ k f other at called. unused-name d name k f claims.unused at (called ∙ sym (ap (λ (x : Entry). x.name) same)),
     )))

@@ -1,5 +1,5 @@
 -- A line that ends a guest: each of its steps is proper, and leaves it where it fits.
-use Rattle.std.proofs.Common.{◌≡◌, ℕ, zero, suc, ◌<◌, ◌≤◌, ◌⊎◌, inl, inr, Bool, true, false, refl, sym, ap, subst, ◌∙◌, List, [], ◌∷◌, length, Option, None, Some, option_map, Result, Ok, Err, slice_get, arith}
+use Rattle.std.proofs.Common.{◌≡◌, ℕ, suc, ◌<◌, ◌≤◌, ◌⊎◌, inl, inr, refl, sym, ap, subst, ◌∙◌, List, [], ◌∷◌, length, Option, None, Some, option_map, Ok, Err, slice_get, arith}
 use Rattle.std.specs.List.{AllByRecursion}
 use Rattle.std.proofs.lemmas.Option.{same_Some}
 use Rattle.hv_answer.specs.declared.reply.Reply.{Reply}
@@ -8,10 +8,9 @@ use Rattle.hv_dir.specs.Directory.{DirState, entry_at, guest_at}
 use Rattle.hv_dir.specs.declared.entry.Entry.{Entry}
 use Rattle.hv_kinds.specs.declared.generation.Generation.{Generation}
 use Rattle.hv_kinds.specs.declared.stage.Stage.{Stage}
-use Rattle.hv_kinds.specs.declared.stage.Stage.TheVariants.{Making, Made, Ending}
+use Rattle.hv_kinds.specs.declared.stage.Stage.TheVariants.{Made, Ending}
 use Rattle.hv_model.specs.Plans.{Planned, regions_of, row_of, vcpus_of}
 use Rattle.hv_model.specs.Session.{kept}
-use Rattle.hv_refusal.specs.declared.refusal.Refusal.{Refusal}
 use Rattle.hv_region.specs.declared.plan.RegionPlan.{RegionPlan}
 use Rattle.hv_region.specs.declared.window.Window.{Window}
 use Rattle.hv_rules.specs.Body.{index_of}
@@ -22,10 +21,10 @@ use Rattle.hv_rules.specs.Owed.{vcpu_of}
 use Rattle.hv_step.specs.declared.step.Step.{Step}
 use Rattle.hv_step.specs.declared.step.Step.TheVariants as step
 use Rattle.hv_text.specs.declared.limits.TheConstants.{GUEST_VCPUS}
-use Rattle.hv_order_laws.specs.Lines.{Drops, HasMade, IsAmong, IsToDrop}
-use Rattle.hv_order_laws.specs.Owners.{EndsAt, FitsAs, HasNoVcpu, HasToDrop, IsGuest, IsOwnedRow, IsRowOf, LineFits, Owns, Scene, SlotFits, name_at, rows_of, vcpus_by}
+use Rattle.hv_order_laws.specs.Lines.{HasMade, IsAmong, IsToDrop}
+use Rattle.hv_order_laws.specs.Owners.{EndsAt, FitsAs, HasNoVcpu, HasToDrop, IsDirectory, IsGuest, IsOwnedRow, IsRowOf, LineFits, Scene, SlotFits, name_at, rows_of, vcpus_by}
 use Rattle.hv_order_laws.proofs.Asks.{drops-row, drops-vcpu, ends-first, to_end}
-use Rattle.hv_order_laws.proofs.Directory.{IsDirectory, Turns, at-put, named-stands, stands}
+use Rattle.hv_order_laws.proofs.Directory.{Turns, at-put, named-stands, stands}
 use Rattle.hv_order_laws.proofs.Making.{done-fits, guest-kept, guest-of, kept-fits, leaves-none, leaves-some, vcpu-is}
 use Rattle.hv_order_laws.proofs.Steps.{Dropped, HadNone, IsProper, LeavesNothing, SceneStep, none-true}
 use Rattle.hv_order_laws.proofs.Windows.{IsElse, all-both, all-map, dropped-all, none-left}
@@ -85,16 +84,16 @@ module _ (plans : List Planned) (before after : Scene) (ok : IsDirectory before.
     fits-vcpu made todo index happened has drops = (
       tt,
       kept-fits after plans (line_after (line_at (on made (drop_vcpu index ∷ todo))) r c)
-      (own (learnt guest r c) (place_after (on made (drop_vcpu index ∷ todo)) r) (happened.quiet guest) happened.dir
-      (subst (EndsAt after rows slot) (sym (later made todo (drop_vcpu index) has)) (
-        tt,
-        record {
-          asks = drops.asks.1;
-          windows = subst (AllByRecursion (λ (w : Window). IsToDrop rows todo w.target)) (sym (happened.windows slot))
-              (all-map (λ (w : Window). IsToDrop rows (drop_vcpu index ∷ todo) w.target) (λ (w : Window). IsToDrop rows todo w.target) (before.windows slot) (λ w was. row-later todo index w.target was) drops.windows);
-          vcpus = λ v here there. let was = happened.vcpus v there in vcpu-left todo index v here was.1 (drops.vcpus v here was.0);
-        },
-      ))),
+          (own (learnt guest r c) (place_after (on made (drop_vcpu index ∷ todo)) r) (happened.quiet guest) happened.dir
+          (subst (EndsAt after rows slot) (sym (later made todo (drop_vcpu index) has)) (
+            tt,
+            record {
+              asks = drops.asks.1;
+              windows = subst (AllByRecursion (λ (w : Window). IsToDrop rows todo w.target)) (sym (happened.windows slot))
+                  (all-map (λ (w : Window). IsToDrop rows (drop_vcpu index ∷ todo) w.target) (λ (w : Window). IsToDrop rows todo w.target) (before.windows slot) (λ w was. row-later todo index w.target was) drops.windows);
+              vcpus = λ v here there. let was = happened.vcpus v there in vcpu-left todo index v here was.1 (drops.vcpus v here was.0);
+            },
+          ))),
     )
 
     -- a region is dropped
@@ -146,15 +145,15 @@ module _ (plans : List Planned) (before after : Scene) (ok : IsDirectory before.
     fits-dropped made todo stage row g happened by-row has led drops = (
       tt,
       kept-fits after plans (line_after (line_at (on made (drop stage row ∷ todo))) r c)
-      (own (learnt guest r c) (place_after (on made (drop stage row ∷ todo)) r) (happened.quiet guest) happened.dir
-      (subst (EndsAt after rows slot) (sym (later made todo (drop stage row) has)) (
-        tt,
-        record {
-          asks = drops.asks.1;
-          windows = dropped-windows todo stage row drops.asks.0 by-row led drops.windows (happened.windows slot);
-          vcpus = λ v here there. vcpu-later todo stage row (index_of (suc v)) (drops.vcpus v here (happened.vcpus v there));
-        },
-      ))),
+          (own (learnt guest r c) (place_after (on made (drop stage row ∷ todo)) r) (happened.quiet guest) happened.dir
+          (subst (EndsAt after rows slot) (sym (later made todo (drop stage row) has)) (
+            tt,
+            record {
+              asks = drops.asks.1;
+              windows = dropped-windows todo stage row drops.asks.0 by-row led drops.windows (happened.windows slot);
+              vcpus = λ v here there. vcpu-later todo stage row (index_of (suc v)) (drops.vcpus v here (happened.vcpus v there));
+            },
+          ))),
     )
 
     -- at last the slot is let go
@@ -184,7 +183,7 @@ module _ (plans : List Planned) (before after : Scene) (ok : IsDirectory before.
         let Leaves : Stage → Option Stage → Type 0 = λ x o. LeavesNothing before (guest_at before.dir name x) o in (
           subst (λ (x : Stage). Leaves x to) (sym drops.asks.0) (subst (Leaves Ending) (sym drops.asks.1) (leaves-none before name slot birth Ending ok is left-none.0 left-none.1)),
           done-fits after plans (line_after (line_at (on made (turn from to ∷ todo))) r c)
-          (ap left (later made todo (turn from to) has) ∙ drops.asks.2),
+              (ap left (later made todo (turn from to) has) ∙ drops.asks.2),
         )
 
 -- a line that is begun turns the stage

@@ -1,5 +1,5 @@
 -- An event is a step of what lines see.
-use Rattle.std.proofs.Common.{◌≡◌, ℕ, suc, ◌==◌, eq-eqb, eqb-true, ◌⊎◌, inl, inr, Bool, true, false, ◌||◌, refl, sym, ap, subst, ◌∙◌, List, [], ◌∷◌, ◌++◌, map, find, Option, None, Some, Ok, Err, option_map, is_some, Result}
+use Rattle.std.proofs.Common.{◌≡◌, ℕ, suc, ◌==◌, eq-eqb, eqb-true, ◌⊎◌, inl, inr, Bool, true, false, ◌||◌, refl, sym, ap, subst, ◌∙◌, List, [], ◌∷◌, ◌++◌, map, find, Option, None, Some, Ok, Err, is_some, Result}
 use Rattle.std.specs.List.{AllByRecursion, list_any}
 use Rattle.std.specs.Option.{option_map_or}
 use Rattle.std.specs.Prelude.{IsSomeAnd}
@@ -30,20 +30,20 @@ use Rattle.hv_rules.specs.Carry.{Carry}
 use Rattle.hv_dir.specs.Directory.{guest_at}
 use Rattle.hv_dir.specs.declared.refusal.DirRefusal.{DirRefusal}
 use Rattle.hv_rules.specs.Dir.{admitted as dir_admitted}
-use Rattle.hv_rules.specs.Dir.{Admits, DirAgrees, changed, dir_after, generation_of, guest_in, with_region}
+use Rattle.hv_rules.specs.Dir.{Admits, DirAgrees, dir_after, generation_of, guest_in, with_region}
 use Rattle.hv_rules.specs.Footprint.{all_queues, changed_body, components, if_made}
 use Rattle.hv_rules.specs.Line.{learnt}
 use Rattle.hv_rules.specs.Shelf.{Gives, ShelfAgrees, device_for, is_added, shelf_after, unless_stopped}
-use Rattle.hv_rules.specs.Space.{AgreesToAdd, AgreesToDrop, SpaceAgrees, is_dropped, is_of, refusal_in, space_after, with_region as space_with, without_region}
+use Rattle.hv_rules.specs.Space.{AgreesToAdd, AgreesToDrop, SpaceAgrees, is_dropped, is_of, space_after, with_region as space_with, without_region}
 use Rattle.hv_rules.specs.Vcpu.{AgreesToAdd as AgreesToAddVcpu, VcpuAgrees, vcpu_after}
-use Rattle.hv_rules.specs.Windows.{Region, region_of}
+use Rattle.hv_rules.specs.Windows.{region_of}
 use Rattle.hv_space.specs.Space.{SpaceState}
 use Rattle.hv_step.specs.declared.step.Step.{Step}
 use Rattle.hv_step.specs.declared.step.Step.TheVariants as step
 use Rattle.hv_vcpu.specs.Vcpu.{VcpuValue, birth_of}
-use Rattle.hv_order_laws.specs.Owners.{Scene}
-use Rattle.hv_order_laws.proofs.Births.{Adds, Turns, drops-birth, vcpu-birth}
-use Rattle.hv_order_laws.proofs.Directory.{Claims, IsAdmitted, Stays, Turns as StageTurns, admits, is-given, name-cases, stage-cases}
+use Rattle.hv_order_laws.specs.Orders.{scene_of}
+use Rattle.hv_order_laws.proofs.Births.{Adds, drops-birth, vcpu-birth}
+use Rattle.hv_order_laws.proofs.Directory.{Claims, Stays, Turns as StageTurns, admits, is-given, name-cases, stage-cases}
 use Rattle.hv_order_laws.proofs.Steps.{Added, DirBecomes, Dropped, HadNone, IsNewVcpu, IsQuiet, SceneStep, VcpusBecome, WindowsBecome}
 use Rattle.hv_order_laws.proofs.Windows.{all-map, none-found}
 
@@ -367,14 +367,7 @@ module _ (harts : ℕ) (by : ActorId) where
       subst (λ (y : Reply). Quiet y c) (sym agreed) (λ guest. refl)
   quiet-becomes d after-dir devices after-devices spaces after vcpus next _ r c dir shelf space vcpu = tt
 
--- what lines see of a state
-
-abbrev pub scene_of : (O : Origin) → State (machine O) → Scene
-scene_of O s = record {
-  dir = (s (Component component.Dir)).value;
-  windows = λ slot. (s (Component (component.Space slot))).value.windows;
-  is_there = λ v. is_some (birth_of (s (Component (component.Vcpu (suc v)))).value);
-}
+-- an event
 
 module _ (O : Origin) (s : State (machine O)) (e : EventEntry) (may : MayHappen (machine O) s e) where
   abbrev next : State (machine O)

@@ -1,5 +1,5 @@
 -- A hart adds no region and no VCPU, and changes nothing of the directory.
-use Rattle.std.proofs.Common.{◌≡◌, ℕ, zero, suc, ◌==◌, ◌%◌, ◌&&◌, not, if◌then◌else◌, Bool, true, false, eq-eqb, refl, ap, ◌∙◌, List, [], ◌∷◌, Option, None, Some}
+use Rattle.std.proofs.Common.{◌≡◌, ℕ, zero, suc, ◌==◌, ◌%◌, ◌&&◌, not, if◌then◌else◌, true, false, eq-eqb, refl, ap, ◌∙◌, List, [], ◌∷◌, Option, None, Some}
 use Rattle.std.specs.List.{list_all}
 use Rattle.hv_event.specs.declared.event.ActorId.TheVariants.{Hart}
 use Rattle.hv_kinds.specs.declared.generation.Generation.{Generation}

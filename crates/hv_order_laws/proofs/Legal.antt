@@ -1,10 +1,8 @@
 -- Legal histories are in order: what is known of a state holds at the start, each event keeps it, and so each event is in
 -- order.
-use Rattle.std.proofs.Common.{◌≡◌, ℕ, zero, suc, ◌==◌, eq-eqb, eqb-true, ◌≤◌, ◌⊎◌, inl, inr, Bool, true, false, ◌&&◌, ◌||◌, refl, sym, ap, subst, ◌∙◌, List, [], ◌∷◌, length, map, find, Option, None, Some, option_map, is_some}
-use Rattle.std.specs.List.{AllByRecursion, list_all, list_any}
+use Rattle.std.proofs.Common.{◌≡◌, ℕ, zero, suc, ◌==◌, eq-eqb, eqb-true, ◌≤◌, inl, inr, Bool, true, false, ◌&&◌, ◌||◌, refl, sym, ap, subst, ◌∙◌, List, [], ◌∷◌, length, map, find, Option, None, Some, option_map}
+use Rattle.std.specs.List.{list_all, list_any}
 use Rattle.hv_answer.specs.declared.reply.Reply.{Reply}
-use Rattle.hv_body.specs.declared.live.Live.{Live}
-use Rattle.hv_emu.specs.Device.{DevState}
 use Rattle.hv_event.specs.declared.event.ActorId.{ActorId}
 use Rattle.hv_event.specs.declared.event.ActorId.TheVariants.{Hart, Terminal}
 use Rattle.hv_event.specs.declared.event.CellId.{CellId}
@@ -15,17 +13,17 @@ use Rattle.hv_laws.specs.Legal.{board_of}
 use Rattle.hv_laws.specs.Run.{IsStart}
 use Rattle.hv_laws.proofs.Current.{Currents, currents-kept}
 use Rattle.hv_laws.proofs.Frame.{after-step, touched as touched-by, untouched as untouched-by}
-use Rattle.hv_laws.proofs.Legal.{becomes-by, cell-becomes, made_of, starts, step-of}
+use Rattle.hv_laws.proofs.Legal.{becomes-by, cell-becomes, ended-or, made_of, starts, step-of}
 use Rattle.hv_machine.specs.Machine.{MayHappen, State, next_state, state_after, touches}
 use Rattle.hv_machine.specs.Machine.{IsRun as IsMachineRun}
 use Rattle.hv_model.proofs.BoardLemmas.{touch-actor}
 use Rattle.hv_model.specs.Cell.{Actor, Component, same_actor, same_cell, same_component}
 use Rattle.hv_model.specs.declared.entry.Entry.{Entry}
-use Rattle.hv_model.specs.Legal.{Leads, begun, booted, start}
+use Rattle.hv_model.specs.Legal.{begun, booted, first, start}
 use Rattle.hv_model.specs.Origin.{Origin}
 use Rattle.hv_model.specs.Plans.{Planned, plan_of}
 use Rattle.hv_model.specs.Rules.{components_of, machine}
-use Rattle.hv_model.specs.Session.{Session, present, session_after}
+use Rattle.hv_model.specs.Session.{present, session_after}
 use Rattle.hv_model.specs.Terminal.{FitsPresent, IsNextStep, TerminalAgrees, TerminalState, terminal_after, terminal_with}
 use Rattle.hv_region.specs.declared.plan.GuestPlan.{GuestPlan}
 use Rattle.hv_region.specs.declared.window.Window.{Window}
@@ -36,24 +34,24 @@ use Rattle.hv_rules.specs.Space.{is_of}
 use Rattle.hv_step.specs.declared.step.Step.{Step}
 use Rattle.hv_text.specs.declared.limits.TheConstants.{GUEST_VCPUS}
 use Rattle.hv_vcpu.specs.Vcpu.{VcpuValue}
-use Rattle.hv_window_laws.specs.Guests.{Guests, IsInOrder, IsStep}
+use Rattle.hv_window_laws.specs.Guests.{IsInOrder, IsStep}
 use Rattle.hv_window_laws.specs.Legal.{AreInOrder, guests_of}
 use Rattle.hv_window_laws.specs.Windows.{birth_in, is_own_of, leads_to, own_of, windows_of}
 use Rattle.hv_window_laws.proofs.Lists.{filter-none, find-none}
 use Rattle.hv_window_laws.proofs.Runs.{matched-reached}
 use Rattle.hv_window_laws.proofs.Slots.{Slot}
 use Rattle.hv_window_laws.proofs.Steps.{Matched, matched-kept}
-use Rattle.hv_order_laws.specs.Orders.{ArePlansGood, AreOrdered, AreVcpusInOrder, IsVcpuInOrder, LegalHistoriesAreInOrder, RunsAreInOrder}
-use Rattle.hv_order_laws.specs.Owners.{LineFits, Scene, SlotFits, owned_by}
+use Rattle.hv_order_laws.specs.Orders.{LinesOwnTheirGuests, lines_of, AreOrdered, ArePlansGood, AreVcpusInOrder, IsVcpuInOrder, LegalHistoriesAreInOrder, RunsAreInOrder, scene_of}
+use Rattle.hv_order_laws.specs.Owners.{HasOwners, Scene, owned_by}
 use Rattle.hv_order_laws.proofs.Begun.{calm-proper, calm-spares, is_calm}
 use Rattle.hv_rules.proofs.Slices.{is_signal}
 use Rattle.hv_order_laws.proofs.Directory.{equal-or, starts-directory}
 use Rattle.hv_order_laws.proofs.Ending.{AreLed}
-use Rattle.hv_order_laws.proofs.Events.{scene-step, scene_of}
+use Rattle.hv_order_laws.proofs.Events.{scene-step}
 use Rattle.hv_order_laws.proofs.Harts.{hart-calm}
 use Rattle.hv_order_laws.proofs.Lines.{LineStep}
 use Rattle.hv_order_laws.proofs.Proper.{good-plan, proper-order, proper-vcpus}
-use Rattle.hv_order_laws.proofs.Scenes.{IsOrdered, line-ordered, quiet-ordered}
+use Rattle.hv_order_laws.proofs.Scenes.{line-ordered, quiet-ordered}
 use Rattle.hv_order_laws.proofs.Steps.{IsProper, SceneStep}
 use Rattle.hv_order_laws.proofs.Terminals.{interrupt-calm, session-step}
 use Rattle.hv_order_laws.proofs.Windows.{all-map}
@@ -124,15 +122,12 @@ start-currents count b is = record {
 }
 
 module _ (O : Origin) where
-  abbrev pub lines_of : State (machine O) → ℕ → Option LineState
-  lines_of s t = (s (Actor (Terminal t))).value.session.line
-
   abbrev plans : List Planned
   plans = O.opening.plans
 
   -- what is known of a state
   pub record IsKnown (s : State (machine O)) : Type 0 where
-    pub ordered : IsOrdered plans (scene_of O s) (lines_of s)
+    pub ordered : HasOwners plans (scene_of O s) (lines_of O s)
     pub guests : Matched (guests_of O s)
     pub currents : Currents (board_of O s)
     pub planned : (t : ℕ) → (s (Actor (Terminal t))).value.plans ≡ plans
@@ -197,7 +192,7 @@ module _ (O : Origin) where
 
     record IsGoing : Type 0 where
       proper : IsProper plans before x c
-      ordered : IsOrdered plans after (lines_of next)
+      ordered : HasOwners plans after (lines_of O next)
 
     -- a terminal that doesn't make the event stays as it was
     terminal-stays : (t : ℕ) → same_actor (Terminal t) e.event.actor ≡ false → (next (Actor (Terminal t))).value ≡ (s (Actor (Terminal t))).value
@@ -206,15 +201,15 @@ module _ (O : Origin) where
         let y = Actor (Terminal t) in
         untouched-by (touches m y e) (m.IsAllowedAt y (s y).value e) (m.apply_at y (s y).value e) (s y).value (next y).value (touch-actor O e (Terminal t) ∙ other) (cell-becomes m s e may y)
 
-    other-line : (t : ℕ) → same_actor (Terminal t) e.event.actor ≡ false → lines_of next t ≡ lines_of s t
+    other-line : (t : ℕ) → same_actor (Terminal t) e.event.actor ≡ false → lines_of O next t ≡ lines_of O s t
     other-line t other = ap (λ (v : TerminalState). v.session.line) (terminal-stays t other)
 
-    calm-going : is_calm x ≡ true → ((t : ℕ) → lines_of next t ≡ lines_of s t) → IsGoing
+    calm-going : is_calm x ≡ true → ((t : ℕ) → lines_of O next t ≡ lines_of O s t) → IsGoing
     calm-going calm same =
         let proper = calm-proper plans before x c calm in
         record {
           proper = proper;
-          ordered = quiet-ordered plans before after x r c happened (lines_of s) (lines_of next) k.ordered proper (λ slot f at. calm-spares f.name slot x calm) same;
+          ordered = quiet-ordered plans before after x r c happened (lines_of O s) (lines_of O next) k.ordered proper (λ slot f at. calm-spares f.name slot x calm) same;
         }
 
     hart-going : (h : ℕ) → e.event.actor ≡ Hart h → IsGoing
@@ -238,28 +233,28 @@ module _ (O : Origin) where
           touched-by (touches m y e) (m.IsAllowedAt y (s y).value e) (m.apply_at y (s y).value e) (s y).value (next y).value
           (touch-actor O e (Terminal t) ∙ ap (same_actor (Terminal t)) by ∙ eq-eqb t t refl) (cell-becomes m s e may y)
 
-      line-is : lines_of next t ≡ (terminal_with tv tv.owed x r c).session.line
+      line-is : lines_of O next t ≡ (terminal_with tv tv.owed x r c).session.line
       line-is = ap (λ (v : TerminalState). v.session.line) own.1
 
       by-owed : (owed : List Step) → tv.owed ≡ owed → IsNextStep tv owed x r c → IsGoing
       by-owed (due ∷ owed) is fits =
           calm-going (interrupt-calm x fits.1)
           (λ u. elim (equal-or t u) [
-            | inl same ↦ subst (λ (n : ℕ). lines_of next n ≡ lines_of s n) same
+            | inl same ↦ subst (λ (n : ℕ). lines_of O next n ≡ lines_of O s n) same
                 (line-is ∙ ap (λ (steps : List Step). (terminal_with tv steps x r c).session.line) is)
             | inr other ↦ other-line u (is-not u other)
           ])
       by-owed [] is fits =
           let same-plans : tv.plans ≡ plans = k.planned t in
           let Fits : List Planned → Type 0 = λ p. FitsPresent p tv.session.lines (present p tv.session) x r c in
-          let line : lines_of next t ≡ (session_after plans tv.session r c).line =
+          let line : lines_of O next t ≡ (session_after plans tv.session r c).line =
           line-is ∙ ap (λ (steps : List Step). (terminal_with tv steps x r c).session.line) is ∙ ap (λ (p : List Planned). (session_after p tv.session r c).line) same-plans in
-          let made : LineStep plans before after (owned_by (lines_of s t)) (lines_of next t) x c =
-          subst (λ (l : Option LineState). LineStep plans before after (owned_by (lines_of s t)) l x c) (sym line)
+          let made : LineStep plans before after (owned_by (lines_of O s t)) (lines_of O next t) x c =
+          subst (λ (l : Option LineState). LineStep plans before after (owned_by (lines_of O s t)) l x c) (sym line)
           (session-step plans before after k.ordered.directory k.ordered.slots led few x r c happened tv.session.lines tv.session (k.ordered.fits t) (subst Fits same-plans fits)) in
           record {
             proper = made.proper;
-            ordered = line-ordered plans before after x r c happened (lines_of s) (lines_of next) k.ordered t made (λ u other. other-line u (is-not u other));
+            ordered = line-ordered plans before after x r c happened (lines_of O s) (lines_of O next) k.ordered t made (λ u other. other-line u (is-not u other));
           }
 
       terminal-going : IsGoing
@@ -317,3 +312,15 @@ runs-in-order O good boot later first second = (
 
 pub legal-in-order : LegalHistoriesAreInOrder
 legal-in-order O good H s leads = runs-in-order O good leads.boot leads.later leads.runs.parts.boot_runs leads.runs.parts.later_runs
+
+-- so is what lines own
+
+pub lines-own : LinesOwnTheirGuests
+lines-own O good H s leads =
+    let boot = leads.boot in
+    let parts = leads.runs.parts in
+    let at-boot : IsKnown O (booted O boot) = known-run O good (start O) boot parts.boot_runs (starts-known O) in
+    elim (ended-or (booted O boot first).value) [
+      | inl end ↦ (subst (IsKnown O) (sym (leads.state.ended end)) (known-run O good (begun O boot) leads.later parts.later_runs (begun-known O boot at-boot))).ordered
+      | inr open' ↦ (subst (IsKnown O) (sym (leads.state.unended open').1) at-boot).ordered
+    ]

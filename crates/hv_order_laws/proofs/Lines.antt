@@ -1,32 +1,25 @@
 -- A step of a line: it is proper, spares the guests of other lines, and leaves its line where it fits.
-use Rattle.std.proofs.Common.{◌≡◌, ℕ, zero, suc, ◌<◌, ◌≤◌, ◌⊎◌, inl, inr, Bool, true, false, refl, sym, ap, subst, ◌∙◌, List, [], ◌∷◌, length, Option, None, Some, Result, Ok, Err, is_some, slice_get, arith}
+use Rattle.std.proofs.Common.{◌≡◌, ℕ, ◌<◌, ◌⊎◌, inl, inr, sym, ap, subst, ◌∙◌, List, [], ◌∷◌, Option, None, Some}
 use Rattle.std.proofs.lemmas.Option.{same_Some}
 use Rattle.hv_answer.specs.declared.reply.Reply.{Reply}
-use Rattle.hv_answer.specs.declared.reply.Reply.TheVariants as reply
 use Rattle.hv_dir.specs.Directory.{DirState, entry_at}
 use Rattle.hv_dir.specs.declared.entry.Entry.{Entry}
 use Rattle.hv_kinds.specs.declared.generation.Generation.{Generation}
 use Rattle.hv_kinds.specs.declared.stage.Stage.{Stage}
 use Rattle.hv_kinds.specs.declared.stage.Stage.TheVariants.{Making, Made, Ending}
-use Rattle.hv_model.specs.Plans.{Planned, plan_of, regions_in, regions_of, vcpus_in, vcpus_of}
+use Rattle.hv_model.specs.Plans.{Planned}
 use Rattle.hv_model.specs.Session.{kept, kept_for}
 use Rattle.hv_model.specs.Shown.{shown_in}
 use Rattle.hv_model.specs.Terminal.{Goes}
-use Rattle.hv_model.specs.Work.{line_of}
 use Rattle.hv_refusal.specs.declared.refusal.Refusal.{Refusal}
-use Rattle.hv_region.specs.declared.plan.GuestPlan.{GuestPlan}
 use Rattle.hv_region.specs.declared.plan.RegionPlan.{RegionPlan}
 use Rattle.hv_rules.specs.Carry.{Carry}
 use Rattle.hv_rules.specs.Hart.{slot_of}
-use Rattle.hv_rules.specs.Line.{Ask, Asked, Change, LineState, Place, add, add_vcpu, back, begun_for, change, claim, create, destroy, drop, drop_vcpu, each_vcpu, ends_for, first, halt, kick, left, line_after, look, looks, moved, next_step, on, over, own_vcpu, pause, place_after, reset, reset_device, rest, rests, resume, step_for, step_of, steps_of, turn, undoing, verdict}
-use Rattle.hv_rules.specs.Refused.{directory_refusal_of, refusal_of}
+use Rattle.hv_rules.specs.Line.{Ask, LineState, Place, add, add_vcpu, back, claim, create, destroy, drop, drop_vcpu, left, line_after, next_step, on, over, own_vcpu, step_of, turn, undoing}
 use Rattle.hv_step.specs.declared.step.Step.{Step}
-use Rattle.hv_step.specs.declared.step.Step.TheVariants as step
 use Rattle.hv_text.specs.declared.limits.TheConstants.{GUEST_VCPUS}
-use Rattle.hv_order_laws.specs.Lines.{AddsRegions, AddsVcpus, AreAdditions, ArePlain, Drops, HasMade}
-use Rattle.hv_order_laws.specs.Owners.{CanTurnBack, EndsAt, FitsAs, HasToDrop, IsGuest, IsPlainAt, LineFits, MakesAt, Owns, Scene, SlotFits, owned_by, owned_name, rows_of}
-use Rattle.hv_order_laws.proofs.Asks.{makes-first, plain-each, plain-looks, plain-rests, to_end, to_make}
-use Rattle.hv_order_laws.proofs.Directory.{Claims, IsDirectory, Turns, named-stands, unused-name}
+use Rattle.hv_order_laws.specs.Lines.{AddsRegions, AddsVcpus, AreAdditions, Drops, HasMade}
+use Rattle.hv_order_laws.specs.Owners.{CanTurnBack, FitsAs, HasToDrop, IsDirectory, IsGuest, LineFits, Owns, Scene, owned_by, owned_name, rows_of}
 use Rattle.hv_order_laws.proofs.Ending as ending
 use Rattle.hv_order_laws.proofs.Ending.{AreLed}
 use Rattle.hv_order_laws.proofs.Making as making

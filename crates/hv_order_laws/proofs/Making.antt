@@ -1,5 +1,5 @@
 -- A line that makes a guest: each of its steps is proper, and leaves it where it fits.
-use Rattle.std.proofs.Common.{◌≡◌, ℕ, zero, suc, ◌+◌, ◌*◌, ◌-◌, ◌/◌, ◌%◌, ◌<◌, ◌≤◌, ◌⊎◌, inl, inr, Bool, true, false, refl, sym, ap, subst, ◌∙◌, List, [], ◌∷◌, map, Option, None, Some, option_map, Result, Ok, Err, slice_get, arith}
+use Rattle.std.proofs.Common.{◌≡◌, ℕ, suc, ◌<◌, ◌⊎◌, inl, inr, true, false, refl, sym, ap, subst, ◌∙◌, List, [], ◌∷◌, map, Option, None, Some, option_map, Result, Ok, Err, slice_get, arith}
 use Rattle.std.specs.Option.{option_flatten}
 use Rattle.std.specs.List.{AllByRecursion}
 use Rattle.std.proofs.lemmas.Option.{same_Some}
@@ -11,13 +11,12 @@ use Rattle.hv_dir.specs.declared.entry.Entry.{Entry}
 use Rattle.hv_dir.specs.declared.refusal.DirRefusal.{DirRefusal}
 use Rattle.hv_kinds.specs.declared.generation.Generation.{Generation}
 use Rattle.hv_kinds.specs.declared.stage.Stage.{Stage}
-use Rattle.hv_kinds.specs.declared.stage.Stage.TheVariants.{Making, Made, Ending}
-use Rattle.hv_model.specs.Plans.{Planned, region_of, row_of, vcpus_of}
+use Rattle.hv_kinds.specs.declared.stage.Stage.TheVariants.{Making, Made}
+use Rattle.hv_model.specs.Plans.{Planned, vcpus_of}
 use Rattle.hv_model.specs.Session.{kept, kept_for}
 use Rattle.hv_model.specs.Terminal.{Goes, vcpu_given}
 use Rattle.hv_refusal.specs.declared.refusal.Refusal.{Refusal}
 use Rattle.hv_region.specs.declared.plan.RegionPlan.{RegionPlan}
-use Rattle.hv_region.specs.declared.plan.VcpuPlan.{VcpuPlan}
 use Rattle.hv_region.specs.declared.window.Window.{Window}
 use Rattle.hv_rules.specs.Body.{index_of}
 use Rattle.hv_rules.specs.Carry.{Carry}
@@ -29,10 +28,10 @@ use Rattle.hv_rules.specs.Shelf.{is_added}
 use Rattle.hv_step.specs.declared.step.Step.{Step}
 use Rattle.hv_step.specs.declared.step.Step.TheVariants as step
 use Rattle.hv_text.specs.declared.limits.TheConstants.{GUEST_VCPUS}
-use Rattle.hv_order_laws.specs.Lines.{AddsRegions, AddsVcpus, AreAdditions, HasMade, IsAdded, IsAmong}
-use Rattle.hv_order_laws.specs.Owners.{CanTurnBack, FitsAs, HasNoVcpu, IsGuest, LineFits, MakesAt, Owns, Scene, SlotFits, rows_of}
-use Rattle.hv_order_laws.proofs.Directory.{Claims, IsDirectory, at-put, is-given, stands-named}
-use Rattle.hv_order_laws.proofs.Steps.{Added, Dropped, HadNone, IsOwnVcpu, DirBecomes, IsProper, LeavesNothing, SceneStep, bare-slot, none-true}
+use Rattle.hv_order_laws.specs.Lines.{AddsRegions, AddsVcpus, AreAdditions, HasMade, IsAdded}
+use Rattle.hv_order_laws.specs.Owners.{CanTurnBack, FitsAs, HasNoVcpu, IsDirectory, IsGuest, LineFits, MakesAt, Scene, SlotFits, rows_of}
+use Rattle.hv_order_laws.proofs.Directory.{Claims, at-put, is-given, stands-named}
+use Rattle.hv_order_laws.proofs.Steps.{Added, Dropped, HadNone, IsProper, LeavesNothing, SceneStep, bare-slot, none-true}
 use Rattle.hv_order_laws.proofs.Windows.{IsElse, all-both, all-map, dropped-all, none-left, owners-added}
 
 -- the numbers of VCPUs
@@ -161,9 +160,9 @@ module _ (plans : List Planned) (before after : Scene) (ok : IsDirectory before.
     fits-added made todo row g happened goes can more = (
       goes,
       kept-fits after plans (line_after (line_at (on made (add row ∷ todo))) r c)
-      (own (learnt guest r c) (moved made (add row) todo (verdict made (add row) r)) (happened.quiet guest) happened.dir
-      (subst (λ v. MakesAt after rows slot (moved made (add row) todo v)) (sym (later made row can.asks))
-      (place-added made todo row g happened goes.0 can more (refusal_of r) refl))),
+          (own (learnt guest r c) (moved made (add row) todo (verdict made (add row) r)) (happened.quiet guest) happened.dir
+          (subst (λ v. MakesAt after rows slot (moved made (add row) todo v)) (sym (later made row can.asks))
+          (place-added made todo row g happened goes.0 can more (refusal_of r) refl))),
     )
 
     -- a VCPU is added
@@ -191,8 +190,8 @@ module _ (plans : List Planned) (before after : Scene) (ok : IsDirectory before.
             planned = goes ∙ sym (ap (λ (n : List ℕ). vcpu_given (vcpus_of plans n) vcpu) is.called);
           },
           kept-fits after plans (line_after (line_at (on made (add_vcpu index ∷ todo))) r c)
-          (own (learnt guest r c) (place_after (on made (add_vcpu index ∷ todo)) r) (happened.quiet guest) happened.dir
-          (subst (MakesAt after rows slot) (sym (vcpu-later made todo index has)) (inr (tt, more)))),
+              (own (learnt guest r c) (place_after (on made (add_vcpu index ∷ todo)) r) (happened.quiet guest) happened.dir
+              (subst (MakesAt after rows slot) (sym (vcpu-later made todo index has)) (inr (tt, more)))),
         )
 
     -- the guest is made, and the line is done
@@ -206,7 +205,7 @@ module _ (plans : List Planned) (before after : Scene) (ok : IsDirectory before.
     fits-made made todo from to has made-is last = (
       subst (λ (o : Option Stage). LeavesNothing before (guest_at before.dir name from) o) (sym made-is) (leaves-some before (guest_at before.dir name from) Made),
       done-fits after plans (line_after (line_at (on made (turn from to ∷ todo))) r c)
-      (subst (λ (asks : List Ask). left (place_after (on made (turn from to ∷ asks)) r) ≡ []) (sym last) (turn-later made from to has)),
+          (subst (λ (asks : List Ask). left (place_after (on made (turn from to ∷ asks)) r) ≡ []) (sym last) (turn-later made from to has)),
     )
 
     -- on its way back the line drops a region
@@ -255,12 +254,12 @@ module _ (plans : List Planned) (before after : Scene) (ok : IsDirectory before.
     fits-dropped why made row g happened by-row can = (
       tt,
       kept-fits after plans (line_after (line_at (back why (add row ∷ made))) r c)
-      (own (learnt guest r c) (back why made) (happened.quiet guest) happened.dir
-      (record {
-        asks = can.asks;
-        windows = dropped-windows made row by-row can.windows (happened.windows slot);
-        vcpus = still-none before after slot happened.vcpus can.vcpus;
-      })),
+          (own (learnt guest r c) (back why made) (happened.quiet guest) happened.dir
+          (record {
+            asks = can.asks;
+            windows = dropped-windows made row by-row can.windows (happened.windows slot);
+            vcpus = still-none before after slot happened.vcpus can.vcpus;
+          })),
     )
 
     -- at last it gives up its claim
@@ -276,9 +275,9 @@ module _ (plans : List Planned) (before after : Scene) (ok : IsDirectory before.
     fits-given-up why made can =
         let last : made ≡ [] = can.asks in (
           leaves-none before name slot birth Making ok is
-          (none-left (λ (w : Window). IsAdded rows (claim ∷ []) w.owner) (before.windows slot) (λ w was. no-row w.owner was)
-          (subst (λ (asks : List Ask). AllByRecursion (λ (w : Window). IsAdded rows (claim ∷ asks) w.owner) (before.windows slot)) last can.windows))
-          can.vcpus,
+              (none-left (λ (w : Window). IsAdded rows (claim ∷ []) w.owner) (before.windows slot) (λ w was. no-row w.owner was)
+              (subst (λ (asks : List Ask). AllByRecursion (λ (w : Window). IsAdded rows (claim ∷ asks) w.owner) (before.windows slot)) last can.windows))
+              can.vcpus,
           done-fits after plans (line_after (line_at (back why (claim ∷ made))) r c) (ap (λ (asks : List Ask). map undoing asks) last),
         )
 

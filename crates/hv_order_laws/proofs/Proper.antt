@@ -1,10 +1,8 @@
 -- A proper step is in order.
-use Rattle.std.proofs.Common.{◌≡◌, ℕ, suc, ◌<◌, ◌≤◌, Bool, true, false, refl, sym, ap, subst, ◌∙◌, List, [], ◌∷◌, length, get_or, find, arith, Option, None, Some, Result, Ok, Err, option_map, is_some, slice_get, position}
-use Rattle.std.specs.List.{All, AllByRecursion}
-use Rattle.std.specs.Option.{option_and_then}
+use Rattle.std.proofs.Common.{◌≡◌, ℕ, suc, ◌<◌, ◌≤◌, false, refl, sym, ap, subst, ◌∙◌, List, length, arith, Option, None, Some, Result, Ok, Err, option_map, is_some, slice_get}
+use Rattle.std.specs.List.{AllByRecursion}
 use Rattle.std.specs.Prelude.{IfSome}
 use Rattle.std.specs.Str.{bytes_eq}
-use Rattle.std.proofs.lemmas.List.Quantifiers.{position-Some}
 use Rattle.std.proofs.lemmas.Option.{get_or_from_slice_get, same_Some, slice_get_within}
 use Rattle.hv_dir.proofs.Places.{position_within}
 use Rattle.hv_dir.specs.Directory.{DirState, guest_at}
@@ -19,7 +17,6 @@ use Rattle.hv_region.specs.Plans.{IsRegionPlan}
 use Rattle.hv_region.specs.declared.plan.GuestPlan.{GuestPlan}
 use Rattle.hv_region.specs.declared.plan.RegionPlan.{RegionPlan}
 use Rattle.hv_rules.specs.Carry.{Carry}
-use Rattle.hv_rules.specs.Hart.{slot_of}
 use Rattle.hv_step.specs.declared.step.Step.{Step}
 use Rattle.hv_step.specs.declared.step.Step.TheVariants as step
 use Rattle.hv_text.specs.declared.limits.TheConstants.{GUEST_REGIONS}

@@ -1,33 +1,23 @@
 -- What is known of a scene and of the lines of all terminals, and that each step keeps it.
-use Rattle.std.proofs.Common.{◌≡◌, ℕ, suc, ◌⊎◌, inl, inr, Bool, true, false, refl, sym, ap, subst, ◌∙◌, List, [], ◌∷◌, Option, None, Some}
+use Rattle.std.proofs.Common.{◌≡◌, ℕ, inl, inr, true, false, refl, sym, ap, subst, ◌∙◌, List, Option, None, Some}
 use Rattle.std.specs.List.{AllByRecursion}
 use Rattle.std.proofs.lemmas.Option.{same_Some}
 use Rattle.hv_answer.specs.declared.reply.Reply.{Reply}
-use Rattle.hv_dir.specs.Directory.{DirState, entry_at}
+use Rattle.hv_dir.specs.Directory.{entry_at}
 use Rattle.hv_dir.specs.declared.entry.Entry.{Entry}
 use Rattle.hv_kinds.specs.declared.stage.Stage.{Stage}
 use Rattle.hv_kinds.specs.declared.stage.Stage.TheVariants.{Making, Made, Ending}
 use Rattle.hv_model.specs.Plans.{Planned}
-use Rattle.hv_refusal.specs.declared.refusal.Refusal.{Refusal}
 use Rattle.hv_region.specs.declared.plan.RegionPlan.{RegionPlan}
 use Rattle.hv_region.specs.declared.window.Window.{Window}
-use Rattle.hv_rules.specs.Body.{index_of}
 use Rattle.hv_rules.specs.Carry.{Carry}
-use Rattle.hv_rules.specs.Hart.{slot_of}
 use Rattle.hv_rules.specs.Line.{Ask, Asked, LineState, Place, back, create, destroy, each_vcpu, looks, on, over, rests}
 use Rattle.hv_step.specs.declared.step.Step.{Step}
 use Rattle.hv_order_laws.specs.Lines.{IsAdded, IsToDrop}
-use Rattle.hv_order_laws.specs.Owners.{CanTurnBack, EndsAt, FitsAs, HasNoVcpu, HasToDrop, IsGuest, LineFits, MakesAt, Owns, Scene, SlotFits, owned_by, owned_name, rows_of}
-use Rattle.hv_order_laws.proofs.Directory.{IsDirectory, equal-or}
+use Rattle.hv_order_laws.specs.Owners.{CanTurnBack, EndsAt, FitsAs, HasOwners, IsGuest, LineFits, MakesAt, Scene, SlotFits, owned_by, owned_name, rows_of}
+use Rattle.hv_order_laws.proofs.Directory.{equal-or}
 use Rattle.hv_order_laws.proofs.Lines.{IsFree, LineStep}
 use Rattle.hv_order_laws.proofs.Steps.{IsProper, SceneStep, Spares, StaysAt, directory-kept, none-true, slot-kept, spared}
-
--- the lines of all terminals fit, and no two own a guest of one name
-pub record IsOrdered (plans : List Planned) (scene : Scene) (lines : ℕ → Option LineState) : Type 0 where
-  pub directory : IsDirectory scene.dir
-  pub slots : (slot : ℕ) → SlotFits plans scene slot
-  pub fits : (t : ℕ) → LineFits scene plans (lines t)
-  pub apart : (t u : ℕ) (name : List ℕ) → (t ≡ u → ⊥) → owned_by (lines t) ≡ Some name → owned_by (lines u) ≡ Some name → ⊥
 
 making-made : Making ≡ Made → ⊥
 making-made is = cc
@@ -126,12 +116,12 @@ not-free : (scene : Scene) (plans : List Planned) (line : Option LineState) (nam
 not-free scene plans None name fits is free = absurd (let never : None ≡ Some name = is in cc)
 not-free scene plans (Some line) name fits is free = free-of scene plans line.asked line.regions line.guest line.place name fits is free
 
-module _ (plans : List Planned) (before after : Scene) (s : Step) (r : Reply) (c : Carry) (happened : SceneStep before after s r c) (lines next : ℕ → Option LineState) (J : IsOrdered plans before lines) where
+module _ (plans : List Planned) (before after : Scene) (s : Step) (r : Reply) (c : Carry) (happened : SceneStep before after s r c) (lines next : ℕ → Option LineState) (J : HasOwners plans before lines) where
   slots-kept : IsProper plans before s c → (slot : ℕ) → SlotFits plans after slot
   slots-kept proper slot = slot-kept plans before after s r c J.directory slot (J.slots slot) happened proper
 
   -- a step that spares each guest, and moves no line on
-  pub quiet-ordered : IsProper plans before s c → ((slot : ℕ) (e : Entry) → entry_at before.dir slot ≡ Some e → Spares e.name slot s) → ((t : ℕ) → next t ≡ lines t) → IsOrdered plans after next
+  pub quiet-ordered : IsProper plans before s c → ((slot : ℕ) (e : Entry) → entry_at before.dir slot ≡ Some e → Spares e.name slot s) → ((t : ℕ) → next t ≡ lines t) → HasOwners plans after next
   quiet-ordered proper spares same = record {
     directory = directory-kept before.dir after.dir s r c happened.dir J.directory;
     slots = slots-kept proper;
@@ -167,7 +157,7 @@ module _ (plans : List Planned) (before after : Scene) (s : Step) (r : Reply) (c
       ]
     ]
 
-    pub line-ordered : IsOrdered plans after next
+    pub line-ordered : HasOwners plans after next
     line-ordered = record {
       directory = directory-kept before.dir after.dir s r c happened.dir J.directory;
       slots = slots-kept made.proper;

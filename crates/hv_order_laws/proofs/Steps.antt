@@ -1,5 +1,5 @@
 -- What a step does to a scene, and of which slots it leaves all as it was.
-use Rattle.std.proofs.Common.{◌≡◌, ℕ, zero, suc, ◌<◌, ◌⊎◌, inl, inr, Bool, true, false, not, cond, refl, sym, ap, subst, ◌∙◌, List, [], ◌∷◌, length, get_or, arith, Option, None, Some, Result, Ok, Err, option_map, slice_get, position}
+use Rattle.std.proofs.Common.{◌≡◌, ℕ, suc, ◌<◌, ◌⊎◌, inl, inr, Bool, true, false, not, refl, sym, ap, subst, ◌∙◌, List, [], length, get_or, arith, Option, None, Some, Result, Ok, Err, option_map, slice_get, position}
 use Rattle.std.specs.List.{AllByRecursion}
 use Rattle.std.specs.Option.{option_flatten}
 use Rattle.std.specs.Str.{bytes_eq}
@@ -8,12 +8,12 @@ use Rattle.std.proofs.lemmas.Option.{get_or_from_slice_get, same_Some, slice_get
 use Rattle.std.proofs.lemmas.Slice.Eq.{bytes_eq-Decides}
 use Rattle.hv_answer.specs.declared.reply.Reply.{Reply}
 use Rattle.hv_answer.specs.declared.reply.Reply.TheVariants as reply
-use Rattle.hv_dir.specs.Directory.{DirState, at_next, entry_at, entry_of, guest_at, with_entry}
+use Rattle.hv_dir.specs.Directory.{DirState, at_next, entry_at, entry_of, guest_at}
 use Rattle.hv_dir.specs.declared.entry.Entry.{Entry}
 use Rattle.hv_dir.specs.declared.refusal.DirRefusal.{DirRefusal}
 use Rattle.hv_kinds.specs.declared.generation.Generation.{Generation}
 use Rattle.hv_kinds.specs.declared.stage.Stage.{Stage}
-use Rattle.hv_kinds.specs.declared.stage.Stage.TheVariants.{Making, Made, Ending}
+use Rattle.hv_kinds.specs.declared.stage.Stage.TheVariants.{Made}
 use Rattle.hv_body.specs.Windows.{put_in_order}
 use Rattle.hv_model.specs.Plans.{Planned, region_at, region_of, regions_of, row_of, vcpus_of}
 use Rattle.hv_model.specs.Terminal.{vcpu_given}
@@ -31,8 +31,8 @@ use Rattle.hv_rules.specs.Space.{refusal_in, target_of, unless_refused}
 use Rattle.hv_rules.specs.Windows.{Region, window_of}
 use Rattle.hv_step.specs.declared.step.Step.{Step}
 use Rattle.hv_step.specs.declared.step.Step.TheVariants as step
-use Rattle.hv_order_laws.specs.Owners.{HasNoVcpu, IsOwnedRow, IsRowOf, Scene, SlotFits, name_at, vcpus_by}
-use Rattle.hv_order_laws.proofs.Directory.{Claims, IsAdmitted, IsDirectory, Stands, Stays, Turns, at-else, at-put, claims-keep, equal-or, named-stands, stands, turns-keep}
+use Rattle.hv_order_laws.specs.Owners.{HasNoVcpu, IsDirectory, IsOwnedRow, IsRowOf, Scene, SlotFits, name_at, vcpus_by}
+use Rattle.hv_order_laws.proofs.Directory.{Claims, IsAdmitted, Stays, Turns, at-else, at-put, claims-keep, equal-or, named-stands, stands, turns-keep}
 use Rattle.hv_order_laws.proofs.Windows.{dropped-all, IsElse, all-map, none-left, targets-added}
 
 -- the directory
@@ -251,7 +251,7 @@ bare-slot plans scene slot fits none =
     let name = name_at scene.dir slot in (
       none-left (λ (w : Window). IsRowOf plans name w.target) (scene.windows slot) (λ w is. subst (λ (n : Option (List ℕ)). IsRowOf plans n w.target) none is) fits.windows,
       λ v here. none-true (scene.is_there v) (λ is.
-      let below : index_of (suc v) < vcpus_by plans None = subst (λ (n : Option (List ℕ)). index_of (suc v) < vcpus_by plans n) none (fits.vcpus v here is) in omega (arith, below)),
+          let below : index_of (suc v) < vcpus_by plans None = subst (λ (n : Option (List ℕ)). index_of (suc v) < vcpus_by plans n) none (fits.vcpus v here is) in omega (arith, below)),
     )
 
 module _ (plans : List Planned) (before after : Scene) (s : Step) (r : Reply) (c : Carry) (ok : IsDirectory before.dir) (slot : ℕ) (fits : SlotFits plans before slot) where

@@ -1,16 +1,14 @@
 -- A step of a terminal: an interrupt step that it owes, the one step of a command, or a step of a line.
-use Rattle.std.proofs.Common.{◌≡◌, ℕ, ◌≤◌, ◌⊎◌, inl, inr, Bool, true, false, refl, sym, ap, subst, ◌∙◌, List, [], ◌∷◌, length, Option, None, Some, Result, Ok, Err}
+use Rattle.std.proofs.Common.{◌≡◌, ℕ, ◌≤◌, inl, true, refl, sym, ap, subst, List, length, Option, None, Some, Result, Ok, Err}
 use Rattle.hv_answer.specs.declared.reply.Reply.{Reply}
-use Rattle.hv_dir.specs.Directory.{entry_at}
-use Rattle.hv_dir.specs.declared.entry.Entry.{Entry}
 use Rattle.hv_kinds.specs.declared.generation.Generation.{Generation}
 use Rattle.hv_kinds.specs.declared.stage.Stage.TheVariants.{Made}
 use Rattle.hv_model.specs.Plans.{Planned, plan_of}
 use Rattle.hv_model.specs.Session.{Begun, Present, Scripts, Session, Task, begun, first_of, goes, left_of, made_at, makes, present_with, session_after, task_for, task_of, tells}
 use Rattle.hv_model.specs.Session as session
 use Rattle.hv_model.specs.Shown.{showing, shown_in}
-use Rattle.hv_model.specs.Terminal.{Asks, FitsPresent, FitsTask, is_interrupt, refusal_of}
-use Rattle.hv_model.specs.Work.{Work, once, several, work_of, line_of}
+use Rattle.hv_model.specs.Terminal.{Asks, FitsPresent, FitsTask, is_interrupt}
+use Rattle.hv_model.specs.Work.{Work, once, several, work_of}
 use Rattle.hv_region.specs.declared.plan.GuestPlan.{GuestPlan}
 use Rattle.hv_rules.specs.Carry.{Carry}
 use Rattle.hv_rules.specs.Line.{LineState}
@@ -21,9 +19,8 @@ use Rattle.hv_words.specs.Said.{said}
 use Rattle.hv_words.specs.declared.command.Command.{Command}
 use Rattle.hv_words.specs.declared.command.Command.TheVariants as command
 use Rattle.hv_words.specs.declared.refusal.WordsRefusal.{WordsRefusal}
-use Rattle.hv_order_laws.specs.Owners.{LineFits, Scene, SlotFits, owned_by}
+use Rattle.hv_order_laws.specs.Owners.{IsDirectory, LineFits, Scene, SlotFits, owned_by}
 use Rattle.hv_order_laws.proofs.Begun.{begun-step, calm-proper, calm-spares, held-step, is_calm}
-use Rattle.hv_order_laws.proofs.Directory.{IsDirectory}
 use Rattle.hv_order_laws.proofs.Ending.{AreLed}
 use Rattle.hv_order_laws.proofs.Lines.{LineStep}
 use Rattle.hv_order_laws.proofs.Steps.{IsProper, SceneStep, Spares}

@@ -1,27 +1,19 @@
 -- Windows of a slot, once one is put among them or those of a row are gone.
-use Rattle.std.proofs.Common.{◌≡◌, ℕ, ◌==◌, eq-eqb, eqb-true, ◌⊎◌, inl, inr, Bool, true, false, not, ◌&&◌, cond, refl, sym, ap, subst, ◌∙◌, List, [], ◌∷◌, filter, find, Option, None, Some, Ok, Err, option_map, is_none, nat_lt}
+use Rattle.std.proofs.Common.{◌≡◌, ℕ, ◌==◌, eq-eqb, eqb-true, Bool, true, false, not, ◌&&◌, cond, refl, sym, ap, subst, ◌∙◌, List, [], ◌∷◌, filter, find, Option, None, Some, option_map, is_none, nat_lt}
 use Rattle.std.specs.Bool.{then_some}
 use Rattle.std.specs.List.{AllByRecursion, list_any}
 use Rattle.std.specs.Option.{option_or}
-use Rattle.std.specs.Prelude.{IsSomeAnd}
 use Rattle.std.proofs.lemmas.Option.{same_Some}
-use Rattle.hv_answer.specs.declared.reply.Reply.{Reply}
-use Rattle.hv_answer.specs.declared.reply.Reply.TheVariants as reply
 use Rattle.hv_body.specs.Windows.{meets, offset_in, put_in_order}
-use Rattle.hv_emu.specs.Device.{DevState}
-use Rattle.hv_kinds.specs.declared.generation.Generation.{Generation}
 use Rattle.hv_refusal.specs.declared.refusal.Refusal.{Refusal}
 use Rattle.hv_refusal.specs.declared.refusal.Refusal.TheVariants as refusal
 use Rattle.hv_region.specs.Windows.{start_of, without_owner, without_target}
 use Rattle.hv_region.specs.declared.plan.Form.{Form}
 use Rattle.hv_region.specs.declared.plan.Form.TheVariants.{Alias}
-use Rattle.hv_region.specs.declared.plan.RegionPlan.{RegionPlan}
 use Rattle.hv_region.specs.declared.window.Window.{Window}
-use Rattle.hv_rules.specs.Carry.{Carry}
 use Rattle.hv_rules.specs.Line.{is_alias}
-use Rattle.hv_rules.specs.Shelf.{Gives, device_for, unless_stopped}
-use Rattle.hv_rules.specs.Space.{AgreesToAdd, is_of, is_own, lacks_target, least_row, refusal_in, target_at, target_of, unless_refused}
-use Rattle.hv_rules.specs.Windows.{Region, has_range, region_of, window_of}
+use Rattle.hv_rules.specs.Space.{is_of, is_own, lacks_target, least_row, refusal_in, target_of, unless_refused}
+use Rattle.hv_rules.specs.Windows.{Region, has_range, window_of}
 
 -- lists of windows
 

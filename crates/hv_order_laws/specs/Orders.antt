@@ -1,14 +1,15 @@
 -- Legal histories are in order, where the plans of their opening are good.
-use Rattle.std.specs.Prelude.{◌≡◌, ℕ, suc, Option, None, Some, Result, Ok, Err, List, [], ◌∷◌}
+use Rattle.std.specs.Prelude.{◌≡◌, ℕ, suc, Option, None, Some, Result, Ok, Err, List, [], ◌∷◌, is_some}
 use Rattle.std.specs.List.{AllByRecursion}
 use Rattle.hv_dir.specs.Directory.{DirState, guest_at}
 use Rattle.hv_dir.specs.declared.refusal.DirRefusal.{DirRefusal}
+use Rattle.hv_event.specs.declared.event.ActorId.TheVariants.{Terminal}
 use Rattle.hv_event.specs.declared.event.CellId.TheVariants as component
 use Rattle.hv_event.specs.declared.event.Event.{Event}
 use Rattle.hv_kinds.specs.declared.stage.Stage.{Stage}
 use Rattle.hv_kinds.specs.declared.state.State.TheVariants.{Unknown}
 use Rattle.hv_machine.specs.Machine.{IsRun, State, next_state}
-use Rattle.hv_model.specs.Cell.{Component}
+use Rattle.hv_model.specs.Cell.{Actor, Component}
 use Rattle.hv_model.specs.declared.entry.Entry.{Entry}
 use Rattle.hv_model.specs.Legal.{Leads, begun, start}
 use Rattle.hv_model.specs.Origin.{Origin}
@@ -16,11 +17,13 @@ use Rattle.hv_model.specs.Plans.{Planned}
 use Rattle.hv_model.specs.Rules.{machine}
 use Rattle.hv_plan.specs.Rules.{KeepsRules}
 use Rattle.hv_rules.specs.Hart.{slot_of}
+use Rattle.hv_rules.specs.Line.{LineState}
 use Rattle.hv_step.specs.declared.step.Step.{Step}
 use Rattle.hv_step.specs.declared.step.Step.TheVariants as step
-use Rattle.hv_vcpu.specs.Vcpu.{VcpuValue}
+use Rattle.hv_vcpu.specs.Vcpu.{VcpuValue, birth_of}
 use Rattle.hv_window_laws.specs.Legal.{AreInOrder}
 use Rattle.hv_window_laws.specs.Windows.{birth_in}
+use Rattle.hv_order_laws.specs.Owners.{HasOwners, Scene}
 
 -- A guest of the host tree that has a plan has one that keeps the rules.
 abbrev pub IsGood : (areas : List (List ℕ × ℕ)) → Planned → Type 0
@@ -67,3 +70,20 @@ abbrev pub LegalHistoriesAreInOrder : Type 0
 LegalHistoriesAreInOrder =
     (O : Origin) → ArePlansGood O → (H : List Event) (s : State (machine O)) (leads : Leads O H s)
     → AreOrdered O (start O) leads.boot × AreOrdered O (begun O leads.boot) leads.later
+
+-- What lines see of a state, and the lines that its terminals are at.
+abbrev pub scene_of : (O : Origin) → State (machine O) → Scene
+scene_of O s = record {
+  dir = (s (Component component.Dir)).value;
+  windows = λ slot. (s (Component (component.Space slot))).value.windows;
+  is_there = λ v. is_some (birth_of (s (Component (component.Vcpu (suc v)))).value);
+}
+
+abbrev pub lines_of : (O : Origin) → State (machine O) → (terminal : ℕ) → Option LineState
+lines_of O s t = (s (Actor (Terminal t))).value.session.line
+
+-- In each state that a legal history leads to, a guest that is made or ended by a line has that line alone as its owner.
+abbrev pub LinesOwnTheirGuests : Type 0
+LinesOwnTheirGuests =
+    (O : Origin) → ArePlansGood O → (H : List Event) (s : State (machine O)) → Leads O H s
+    → HasOwners O.opening.plans (scene_of O s) (lines_of O s)

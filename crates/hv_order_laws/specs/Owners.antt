@@ -1,5 +1,5 @@
 -- Who owns a guest: the terminal whose line makes it or ends it.
-use Rattle.std.specs.Prelude.{◌≡◌, ℕ, suc, ◌<◌, ◌⊎◌, Bool, true, false, Option, None, Some, List, [], length, option_map, slice_get}
+use Rattle.std.specs.Prelude.{◌≡◌, ℕ, suc, ◌<◌, ◌⊎◌, Bool, true, false, Option, None, Some, List, length, option_map, slice_get}
 use Rattle.std.specs.List.{AllByRecursion}
 use Rattle.hv_dir.specs.Directory.{DirState, entry_at}
 use Rattle.hv_dir.specs.declared.entry.Entry.{Entry}
@@ -10,7 +10,7 @@ use Rattle.hv_region.specs.declared.plan.RegionPlan.{RegionPlan}
 use Rattle.hv_region.specs.declared.window.Window.{Window}
 use Rattle.hv_rules.specs.Body.{index_of}
 use Rattle.hv_rules.specs.Hart.{slot_of}
-use Rattle.hv_rules.specs.Line.{Ask, Asked, LineState, Place, create, destroy, drop_vcpu, each_vcpu, is_owned, name_in, on, back, over}
+use Rattle.hv_rules.specs.Line.{Ask, Asked, LineState, Place, create, destroy, drop_vcpu, is_owned, name_in, on, back, over}
 use Rattle.hv_order_laws.specs.Lines.{AddsRegions, AddsVcpus, AreAdditions, ArePlain, Drops, HasMade, IsAdded, IsAmong, IsToDrop}
 
 -- What lines see of a board: its directory, the windows of each slot, and which VCPUs are there, those of guests by
@@ -121,3 +121,15 @@ pub record SlotFits (plans : List Planned) (scene : Scene) (slot : ℕ) : Type 0
   pub windows : AllByRecursion (λ window. IsRowOf plans (name_at scene.dir slot) window.target) (scene.windows slot)
   pub vcpus : (v : ℕ) → slot_of (suc v) ≡ slot → scene.is_there v ≡ true
       → index_of (suc v) < vcpus_by plans (name_at scene.dir slot)
+
+-- Each entry of the directory stands at its slot, and no two have one name.
+pub record IsDirectory (d : DirState) : Type 0 where
+  pub placed : (k : ℕ) (e : Entry) → entry_at d k ≡ Some e → e.slot ≡ k
+  pub distinct : (j k : ℕ) (e f : Entry) → entry_at d j ≡ Some e → entry_at d k ≡ Some f → e.name ≡ f.name → j ≡ k
+
+-- The line of each terminal fits what it sees, and no two own a guest of one name.
+pub record HasOwners (plans : List Planned) (scene : Scene) (lines : (terminal : ℕ) → Option LineState) : Type 0 where
+  pub directory : IsDirectory scene.dir
+  pub slots : (slot : ℕ) → SlotFits plans scene slot
+  pub fits : (t : ℕ) → LineFits scene plans (lines t)
+  pub apart : (t u : ℕ) (name : List ℕ) → (t ≡ u → ⊥) → owned_by (lines t) ≡ Some name → owned_by (lines u) ≡ Some name → ⊥

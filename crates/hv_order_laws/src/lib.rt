@@ -2,3 +2,5 @@
 #![tactic(auto)]
 
 mod laws;
+
+pub use laws::{legal_histories_are_in_order, lines_own_their_guests, runs_are_in_order};
