@@ -9,5 +9,4 @@ pub mod Owned
 pub mod Turns
 pub mod Exists
 pub mod Vcpus
-pub mod Orders
 pub mod Owing

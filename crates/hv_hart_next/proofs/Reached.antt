@@ -24,6 +24,7 @@ use Rattle.hv_step.specs.declared.step.Step.{Step}
 use Rattle.hv_window_laws.specs.Guests.{Guests, IsInOrder, IsStep as IsGuestStep}
 use Rattle.hv_window_laws.specs.Legal.{AreInOrder, guests_of}
 use Rattle.hv_window_laws.specs.Run.{IsRun as IsGuestRun, IsReached as IsGuestReached}
+use Rattle.hv_order_laws.proofs.Legal.{guest-step, legal-in-order}
 use Rattle.hv_hart_next.specs.Next.{IsReached}
 
 -- one step more
@@ -54,39 +55,6 @@ guest-add count one two made is more = record {
   leads = guest-run-add count is.start one two is.steps made is.leads more;
 }
 
--- an event is a step of the guests
-
-among : (x : CellId) (cs : List CellId) → list_any (same_cell (Component x)) (map Component cs) ≡ list_any (same_component x) cs
-among x [] = refl
-among x (c ∷ cs) = ap (λ (b : Bool). same_component x c || b) (among x cs)
-
-guest-step : (O : Origin) (s : State (machine O)) (e : Entry) → MayHappen (machine O) s e → IsInOrder (guests_of O s) e.event.step e.carry
-    → IsGuestStep O.opening.harts (guests_of O s) (guests_of O (next_state (machine O) s e)) (made_of e)
-guest-step O s e may order =
-    let m = machine O in
-    let cs = components_of O.opening.harts e in
-    record {
-      components = record {
-        dir =
-            let x = Component Dir in
-            becomes-by (touches m x e) (list_any (same_component Dir) cs) (m.IsAllowedAt x (s x).value e) (m.apply_at x (s x).value e) (s x).value (next_state m s e x).value
-            (among Dir cs) (cell-becomes m s e may x);
-        shelf =
-            let x = Component Shelf in
-            becomes-by (touches m x e) (list_any (same_component Shelf) cs) (m.IsAllowedAt x (s x).value e) (m.apply_at x (s x).value e) (s x).value (next_state m s e x).value
-            (among Shelf cs) (cell-becomes m s e may x);
-        spaces = λ g.
-            let x = Component (Space g) in
-            becomes-by (touches m x e) (list_any (same_component (Space g)) cs) (m.IsAllowedAt x (s x).value e) (m.apply_at x (s x).value e) (s x).value (next_state m s e x).value
-            (among (Space g) cs) (cell-becomes m s e may x);
-        bodies = λ g j.
-            let x = Component (Body g j) in
-            becomes-by (touches m x e) (list_any (same_component (Body g j)) cs) (m.IsAllowedAt x (s x).value e) (m.apply_at x (s x).value e) (s x).value (next_state m s e x).value
-            (among (Body g j) cs) (cell-becomes m s e may x);
-      };
-      in_order = order;
-    }
-
 -- a hart that isn't there makes no step
 
 pub ends-row : (n : ℕ) (hart : Program) → hart.owed ≡ [] → hart.pending ≡ None → hart.left ≡ 0 → row_of n hart ≡ ends
@@ -98,6 +66,14 @@ not-below h count out = grind arith
 
 abbrev pub resting : Origin → ℕ → Program
 resting O h = (hart_at_start O.opening.harts O.opening.turns h).program
+
+-- what a legal history does is in order
+
+pub boot-order : (O : Origin) (s : State (machine O)) (is : IsReached O s) → AreInOrder O (start O) is.leads.boot
+boot-order O s is = (legal-in-order O is.good is.history s is.leads).0.guests
+
+pub later-order : (O : Origin) (s : State (machine O)) (is : IsReached O s) → AreInOrder O (begun O is.leads.boot) is.leads.later
+later-order O s is = (legal-in-order O is.good is.history s is.leads).1.guests
 
 module _ (O : Origin) where
   pub no-step : (h : ℕ) (hart : Program) (st : Step) (c : Carry) → O.opening.harts ≤ h → hart ≡ resting O h → HartAgrees h hart st c → ⊥
@@ -152,8 +128,8 @@ module _ (O : Origin) where
       let leads = is.leads in
       let boot = leads.boot in
       let parts = leads.runs.parts in
-      let at-boot : Known (booted O boot) = known-run (start O) boot parts.boot_runs is.boot_in_order known-start in
+      let at-boot : Known (booted O boot) = known-run (start O) boot parts.boot_runs (boot-order O s is) known-start in
       elim (ended-or (booted O boot first).value) [
-        | inl end ↦ subst Known (sym (leads.state.ended end)) (known-run (begun O boot) leads.later parts.later_runs is.later_in_order (known-begun boot at-boot))
+        | inl end ↦ subst Known (sym (leads.state.ended end)) (known-run (begun O boot) leads.later parts.later_runs (later-order O s is) (known-begun boot at-boot))
         | inr open' ↦ subst Known (sym (leads.state.unended open').1) at-boot
       ]

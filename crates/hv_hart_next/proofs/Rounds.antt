@@ -15,6 +15,8 @@ use Rattle.hv_model.specs.Rules.{machine}
 use Rattle.hv_next.proofs.Boots.{boot-same}
 use Rattle.hv_next.proofs.Unique.{next-unique}
 use Rattle.hv_window_laws.specs.Legal.{AreInOrder}
+use Rattle.hv_order_laws.specs.Orders.{AreOrdered, ArePlansGood}
+use Rattle.hv_order_laws.proofs.Legal.{runs-in-order}
 use Rattle.hv_words.specs.Words.{commands_of}
 use Rattle.hv_hart_next.proofs.Reached.{Known, known-next, known-run, known-start, known-begun}
 use Rattle.hv_hart_next.proofs.Unique.{hart-unique}
@@ -59,19 +61,22 @@ module _ (O : Origin) where
       let tail : es ≡ fs = made-same next x.0 es fs (known-next O s e run.0 order.0 known) order.1 run.1 (subst Runs (sym head) ran.1) x.2 turns in
       λ i. head i ∷ tail i
 
-  module _ (H K : List Event) (x : IsRounds O H) (y : IsRounds O K) (order : AreInOrder O (start O) x.boot) (orders : AreInOrder O (begun O x.boot) x.made) where
+  module _ (H K : List Event) (x : IsRounds O H) (y : IsRounds O K) (good : ArePlansGood O) where
+    abbrev order : AreOrdered O (start O) x.boot × AreOrdered O (begun O x.boot) x.made
+    order = runs-in-order O good x.boot x.made x.parts.boot_runs x.parts.later_runs
+
     boots : x.boot ≡ y.boot
     boots =
         boot-same O (commands_of (own_script O 0)) (start O) x.boot y.boot x.parts.alone y.parts.alone x.parts.boot_runs y.parts.boot_runs x.boot_ended y.boot_ended x.within y.within
 
     known : Known O (begun O x.boot)
-    known = known-begun O x.boot (known-run O (start O) x.boot x.parts.boot_runs order (known-start O))
+    known = known-begun O x.boot (known-run O (start O) x.boot x.parts.boot_runs order.0.guests (known-start O))
 
     makes : x.made ≡ y.made
     makes =
         let Runs : List Entry → Type 0 = λ boot. IsRun (machine O) (begun O boot) y.made in
         let Turns : List Entry → Type 0 = λ boot. TakesTurns O (begun O boot) [] y.made in
-        made-same (begun O x.boot) [] x.made y.made known orders x.parts.later_runs (subst Runs (sym boots) y.parts.later_runs) x.turns (subst Turns (sym boots) y.turns)
+        made-same (begun O x.boot) [] x.made y.made known order.1.guests x.parts.later_runs (subst Runs (sym boots) y.parts.later_runs) x.turns (subst Turns (sym boots) y.turns)
 
     merges : x.all ≡ y.all
     merges =

@@ -34,7 +34,7 @@ use Rattle.hv_window_laws.specs.Legal.{AreInOrder}
 use Rattle.hv_window_laws.proofs.Lists.{lt-true}
 use Rattle.hv_hart_next.specs.Next.{IsReached}
 use Rattle.hv_hart_next.proofs.Kept.{kept-reached}
-use Rattle.hv_hart_next.proofs.Reached.{Known, known-begun, known-next, known-run, known-start}
+use Rattle.hv_hart_next.proofs.Reached.{Known, known-begun, known-next, known-run, known-start, boot-order, later-order}
 
 pub record Counts (turns : ℕ) (hart : HartState) : Type 0 where
   pub sum : hart.left + hart.turns ≡ turns
@@ -247,9 +247,9 @@ module _ (O : Origin) where
       let leads = is.leads in
       let boot = leads.boot in
       let parts = leads.runs.parts in
-      let known = known-run O (start O) boot parts.boot_runs is.boot_in_order (known-start O) in
-      let at-boot : AllCount (booted O boot) = counts-run (start O) boot parts.boot_runs is.boot_in_order (known-start O) counts-start in
+      let known = known-run O (start O) boot parts.boot_runs (boot-order O s is) (known-start O) in
+      let at-boot : AllCount (booted O boot) = counts-run (start O) boot parts.boot_runs (boot-order O s is) (known-start O) counts-start in
       elim (ended-or (booted O boot first).value) [
-        | inl end ↦ subst AllCount (sym (leads.state.ended end)) (counts-run (begun O boot) leads.later parts.later_runs is.later_in_order (known-begun O boot known) (counts-begun boot at-boot))
+        | inl end ↦ subst AllCount (sym (leads.state.ended end)) (counts-run (begun O boot) leads.later parts.later_runs (later-order O s is) (known-begun O boot known) (counts-begun boot at-boot))
         | inr open' ↦ subst AllCount (sym (leads.state.unended open').1) at-boot
       ]

@@ -43,110 +43,10 @@ use Rattle.hv_vcpu.specs.declared.moves.Move.TheVariants as move
 use Rattle.hv_window_laws.specs.Guests.{Guests, LeavesNoWindow}
 use Rattle.hv_window_laws.specs.Windows.{birth_in}
 use Rattle.hv_window_laws.proofs.Births.{Placed, dir-kept, placed-at-start}
-use Rattle.hv_hart_next.specs.Next.{AreVcpusInOrder, IsReached, IsVcpuInOrder, LeavesNoVcpu}
-
--- what a step makes of a VCPU's birth
-
-abbrev keeps : Move → Bool
-keeps (move.Add birth index plan) = false
-keeps move.Drop = false
-keeps m = true
-
-moved-birth : (m : Move) (s : VcpuState) (x : VcpuValue) → keeps m ≡ true → x.state ≡ s → birth_of (moved_if m (led m s) x) ≡ unless_unknown s x.birth
-moved-birth (move.Add birth index plan) s x kept is = absurd (cc kept)
-moved-birth move.Drop s x kept is = absurd (cc kept)
-moved-birth move.Kick Reset x kept is = refl
-moved-birth move.Resume (Paused waits) x kept is = refl
-moved-birth (move.Dispatch hart) Ready x kept is = refl
-moved-birth move.Preempt (Running hart) x kept is = refl
-moved-birth move.Pause Ready x kept is = refl
-moved-birth move.Pause (Running hart) x kept is = refl
-moved-birth move.Halt Ready x kept is = refl
-moved-birth move.Halt (Running hart) x kept is = refl
-moved-birth move.Reset Ready x kept is = refl
-moved-birth move.Reset (Running hart) x kept is = refl
-moved-birth move.Reset (Paused waits) x kept is = refl
-moved-birth move.Reset Halted x kept is = refl
-moved-birth m s x kept is = ap (λ (z : VcpuState). unless_unknown z x.birth) is
-
-stepped-birth : (m : Move) (x : VcpuValue) → keeps m ≡ true → birth_of (stepped m x) ≡ birth_of x
-stepped-birth m x kept = moved-birth m x.state x kept refl
-
-dropped-birth : (s : VcpuState) (x : VcpuValue) → x.state ≡ s → (birth_of (moved_if move.Drop (led move.Drop s) x) ≡ birth_of x) ⊎ (birth_of (moved_if move.Drop (led move.Drop s) x) ≡ None)
-dropped-birth Unknown x is = inl refl
-dropped-birth Reset x is = inr refl
-dropped-birth Ready x is = inr refl
-dropped-birth (Running hart) x is = inr refl
-dropped-birth (Paused waits) x is = inr refl
-dropped-birth Halted x is = inr refl
-
-adds : (birth index : ℕ) (plan : VcpuPlan) (s : VcpuState) (x : VcpuValue)
-    → (birth_of (moved_if (move.Add birth index plan) (led (move.Add birth index plan) s) x) ≡ birth_of x)
-    ⊎ (birth_of (moved_if (move.Add birth index plan) (led (move.Add birth index plan) s) x) ≡ Some birth)
-adds birth index plan Unknown x = inr refl
-adds birth index plan s x = inl refl
-
-added-birth : (x : VcpuValue) (birth : ℕ) (plan : Option (ℕ × VcpuPlan)) → (birth_of (added x birth plan) ≡ birth_of x) ⊎ (birth_of (added x birth plan) ≡ Some birth)
-added-birth x birth None = inl refl
-added-birth x birth (Some plan) = adds birth plan.0 plan.1 x.state x
-
-fetched-birth : (s : VcpuState) (h birth : ℕ) (answer : After) → s ≡ Running h → unless_unknown (state_then s answer) birth ≡ unless_unknown s birth
-fetched-birth s h birth after.Wait is = sym (ap (λ (z : VcpuState). unless_unknown z birth) is)
-fetched-birth s h birth _ is = refl
-
-woken-birth : (s : VcpuState) (birth : ℕ) (interrupt : Bool) (x : VcpuValue) → x.state ≡ s → x.birth ≡ birth
-    → birth_of (if is_waiting s && interrupt then record x { state = Ready } else x) ≡ unless_unknown s birth
-woken-birth (Paused true) birth true x is born = ap Some born
-woken-birth (Paused true) birth false x is born = λ i. unless_unknown (is i) (born i)
-woken-birth (Paused false) birth interrupt x is born = λ i. unless_unknown (is i) (born i)
-woken-birth s birth interrupt x is born = λ i. unless_unknown (is i) (born i)
-
-completed-birth : (x : VcpuValue) (pending : Option Pending) (value : ℕ) → birth_of (completed pending value x) ≡ birth_of x
-completed-birth x None value = refl
-completed-birth x (Some (load address size is_signed register)) value = refl
-completed-birth x (Some (store address size stored_value)) value = refl
-
-abbrev Adds : Step → Option ℕ → Type 0
-Adds (step.Vadd s) birth = birth ≡ Some s.birth
-Adds _ birth = ⊥
-
-abbrev Turns : VcpuValue → Step → VcpuValue → Type 0
-Turns x s y = (birth_of y ≡ birth_of x) ⊎ ((birth_of y ≡ None) ⊎ Adds s (birth_of y))
-
-take-birth : (by : ActorId) (x : VcpuValue) (v : ℕ) (r : Reply) (c : Carry) → birth_of (vcpu_after by x (step.Take (record { vcpu = v })) r c) ≡ birth_of x
-take-birth by x v (reply.Take cause) c = refl
-take-birth by x v _ c = refl
-
-running : (by : ActorId) (s : VcpuState) → runs_on by s ≡ true → (h : ℕ) × (s ≡ Running h)
-running (Hart h) s is = (h, runs-here h s is)
-running (Terminal t) s is = absurd (cc is)
-
-vcpu-birth : (by : ActorId) (x : VcpuValue) (s : Step) (r : Reply) (c : Carry) → VcpuAgrees by x s r c → Turns x s (vcpu_after by x s r c)
-vcpu-birth by x (step.Vadd s) r c ok = elim (added-birth x s.birth c.vcpu) [ inl same ↦ inl same | inr new ↦ inr (inr new) ]
-vcpu-birth by x (step.Vdrop s) r c ok = elim (dropped-birth x.state x refl) [ inl same ↦ inl same | inr none ↦ inr (inl none) ]
-vcpu-birth by x (step.Kick s) r c ok = inl (stepped-birth move.Kick x refl)
-vcpu-birth by x (step.Resume s) r c ok = inl (stepped-birth move.Resume x refl)
-vcpu-birth by x (step.Pause s) r c ok = inl (stepped-birth move.Pause x refl)
-vcpu-birth by x (step.Halt s) r c ok = inl (stepped-birth move.Halt x refl)
-vcpu-birth by x (step.Reset s) r c ok = inl (stepped-birth move.Reset x refl)
-vcpu-birth (Hart h) x (step.Dispatch s) r c ok = inl (stepped-birth (move.Dispatch h) x refl)
-vcpu-birth (Terminal t) x (step.Dispatch s) r c ok = absurd ok
-vcpu-birth by x (step.Preempt s) r c ok = inl (stepped-birth move.Preempt x refl)
-vcpu-birth by x (step.Take s) r c ok = inl (take-birth by x s.vcpu r c)
-vcpu-birth by x (step.Fetch s) (reply.Fetch None) c ok = inl refl
-vcpu-birth by x (step.Fetch s) (reply.Fetch (Some done)) c ok =
-    let run = running by x.state ok.0 in
-    inl (fetched-birth x.state run.0 x.birth (carried_out x.context done.word).answer run.1)
-vcpu-birth by x (step.Fetch s) r c ok = absurd ok.4
-vcpu-birth by x (step.Access s) (reply.Access None) c ok = inl refl
-vcpu-birth by x (step.Access s) (reply.Access (Some accessed)) c ok = inl (completed-birth x c.pending accessed.value)
-vcpu-birth by x (step.Access s) r c ok = inl refl
-vcpu-birth by x (step.Pin s) (reply.Pin None) c ok = inl refl
-vcpu-birth by x (step.Pin s) (reply.Pin (Some pinned)) c ok =
-    let y = with_pins s.row pinned.pins x in
-    inl (woken-birth x.state x.birth (has_interrupt y.context) y refl refl)
-vcpu-birth by x (step.Pin s) r c ok = absurd ok
-vcpu-birth by x _ r c ok = inl refl
+use Rattle.hv_order_laws.specs.Orders.{AreVcpusInOrder, IsVcpuInOrder, LeavesNoVcpu}
+use Rattle.hv_order_laws.proofs.Births.{Adds, vcpu-birth}
+use Rattle.hv_order_laws.proofs.Legal.{legal-in-order}
+use Rattle.hv_hart_next.specs.Next.{IsReached}
 
 -- the birth of a VCPU, as a window would have it
 
@@ -285,14 +185,15 @@ module _ (O : Origin) where
   born-begun : (boot : List Entry) → AreBorn (booted O boot) → AreBorn (begun O boot)
   born-begun boot J = record { placed = J.placed; born = J.born }
 
-  pub born-reached : (s : State (machine O)) (is : IsReached O s) → AreVcpusInOrder O (start O) is.leads.boot → AreVcpusInOrder O (begun O is.leads.boot) is.leads.later → AreBorn s
-  born-reached s is first-order later-order =
+  pub born-reached : (s : State (machine O)) → IsReached O s → AreBorn s
+  born-reached s is =
+      let order = legal-in-order O is.good is.history s is.leads in
       let leads = is.leads in
       let boot = leads.boot in
       let parts = leads.runs.parts in
-      let at-boot : AreBorn (booted O boot) = born-run (start O) boot parts.boot_runs first-order born-start in
+      let at-boot : AreBorn (booted O boot) = born-run (start O) boot parts.boot_runs order.0.vcpus born-start in
       elim (ended-or (booted O boot first).value) [
-        | inl end ↦ subst AreBorn (sym (leads.state.ended end)) (born-run (begun O boot) leads.later parts.later_runs later-order (born-begun boot at-boot))
+        | inl end ↦ subst AreBorn (sym (leads.state.ended end)) (born-run (begun O boot) leads.later parts.later_runs order.1.vcpus (born-begun boot at-boot))
         | inr open' ↦ subst AreBorn (sym (leads.state.unended open').1) at-boot
       ]
 

@@ -10,7 +10,7 @@ use Rattle.hv_kinds.specs.declared.state.State.TheVariants.{Running, Unknown}
 use Rattle.hv_machine.specs.Machine.{State, MayHappen, next_state}
 use Rattle.hv_model.specs.Cell.{Actor, Component}
 use Rattle.hv_model.specs.declared.entry.Entry.{Entry}
-use Rattle.hv_model.specs.Legal.{Leads, begun, start}
+use Rattle.hv_model.specs.Legal.{Leads}
 use Rattle.hv_model.specs.Origin.{Origin}
 use Rattle.hv_model.specs.Report.{IsReport}
 use Rattle.hv_model.specs.Rounds.{IsRounds, has_ended}
@@ -20,16 +20,14 @@ use Rattle.hv_rules.specs.Hart.{slot_of}
 use Rattle.hv_step.specs.declared.step.Step.{Step}
 use Rattle.hv_step.specs.declared.step.Step.TheVariants as step
 use Rattle.hv_vcpu.specs.Vcpu.{VcpuValue}
-use Rattle.hv_window_laws.specs.Guests.{IsInOrder}
-use Rattle.hv_window_laws.specs.Legal.{AreInOrder, guests_of}
+use Rattle.hv_order_laws.specs.Orders.{ArePlansGood}
 use Rattle.hv_window_laws.specs.Windows.{birth_in}
 
--- A state is reached where a legal history leads to it whose events are in order.
+-- A state is reached where a legal history leads to it from an opening whose plans are good.
 pub record IsReached (O : Origin) (s : State (machine O)) : Type 0 where
   pub history : List Event
   pub leads : Leads O history s
-  pub boot_in_order : AreInOrder O (start O) leads.boot
-  pub later_in_order : AreInOrder O (begun O leads.boot) leads.later
+  pub good : ArePlansGood O
 
 -- A hart has one next event at most.
 abbrev pub HartHasOneNextEvent : Type 0
@@ -45,42 +43,16 @@ ActorHasOneNextEvent =
     → e.event.actor ≡ f.event.actor
     → MayHappen (machine O) s e → MayHappen (machine O) s f → e ≡ f
 
--- A run in rounds whose events are in order has one history.
+-- A run in rounds from such an opening has one history.
 abbrev pub RoundsHaveOneHistory : Type 0
 RoundsHaveOneHistory =
-    (O : Origin) (H K : List Event) (one : IsRounds O H) → IsRounds O K
-    → AreInOrder O (start O) one.boot → AreInOrder O (begun O one.boot) one.made → H ≡ K
+    (O : Origin) → ArePlansGood O → (H K : List Event) → IsRounds O H → IsRounds O K → H ≡ K
 
 -- And so it has one report.
 abbrev pub RoundsHaveOneReport : Type 0
 RoundsHaveOneReport =
-    (O : Origin) (H K : List Event) (threads brief : Bool) (text other : List ℕ) (one : IsRounds O H) → IsRounds O K
-    → AreInOrder O (start O) one.boot → AreInOrder O (begun O one.boot) one.made
+    (O : Origin) → ArePlansGood O → (H K : List Event) (threads brief : Bool) (text other : List ℕ) → IsRounds O H → IsRounds O K
     → IsReport O H threads brief text → IsReport O K threads brief other → text ≡ other
-
--- A slot is let go once no VCPU of it is there.
-abbrev pub LeavesNoVcpu : (vcpus : ℕ → VcpuValue) → Result (ℕ × ℕ) DirRefusal → (next : Option Stage) → Type 0
-LeavesNoVcpu vcpus (Ok guest) None = (v : ℕ) → slot_of (suc v) ≡ guest.0 → (vcpus (suc v)).state ≡ Unknown
-LeavesNoVcpu vcpus guest next = Unit {0}
-
--- What is asked of an actor besides what the components see to: it adds a VCPU to the guest that has its slot, and lets
--- a slot go only once no VCPU of it is there.
-abbrev pub IsVcpuInOrder : DirState → (vcpus : ℕ → VcpuValue) → Step → Type 0
-IsVcpuInOrder dir vcpus (step.Vadd s) = birth_in dir (slot_of s.vcpu) ≡ Some s.birth
-IsVcpuInOrder dir vcpus (step.Stage s) = LeavesNoVcpu vcpus (guest_at dir s.name s.from) s.to
-IsVcpuInOrder dir vcpus _ = Unit {0}
-
--- Each event is so, in the state in which it is made.
-abbrev pub AreVcpusInOrder : (O : Origin) → State (machine O) → List Entry → Type 0
-AreVcpusInOrder O s [] = Unit {0}
-AreVcpusInOrder O s (e ∷ es) =
-    IsVcpuInOrder (s (Component component.Dir)).value (λ v. (s (Component (component.Vcpu v))).value) e.event.step
-    × AreVcpusInOrder O (next_state (machine O) s e) es
-
--- The history of a state that is reached has VCPUs in order too.
-pub record HasVcpusInOrder (O : Origin) (s : State (machine O)) (is : IsReached O s) : Type 0 where
-  pub boot : AreVcpusInOrder O (start O) is.leads.boot
-  pub later : AreVcpusInOrder O (begun O is.leads.boot) is.leads.later
 
 -- A VCPU of a guest that runs is of the guest that the directory has in its slot.
 abbrev pub RunningIsOfItsGuest : (O : Origin) → State (machine O) → Type 0
@@ -91,22 +63,14 @@ RunningIsOfItsGuest O s =
 
 abbrev pub RunningVcpusAreOfTheirGuests : Type 0
 RunningVcpusAreOfTheirGuests =
-    (O : Origin) (s : State (machine O)) (is : IsReached O s) → HasVcpusInOrder O s is → RunningIsOfItsGuest O s
+    (O : Origin) (s : State (machine O)) → IsReached O s → RunningIsOfItsGuest O s
 
 -- A hart that is there has a next event unless it is at its end.
 abbrev pub HartHasANextEvent : Type 0
 HartHasANextEvent =
-    (O : Origin) (s : State (machine O)) (is : IsReached O s) → HasVcpusInOrder O s is → (h : ℕ)
+    (O : Origin) (s : State (machine O)) → IsReached O s → (h : ℕ)
     → h < O.opening.harts → has_ended O s (Hart h) ≡ false
     → (e : Entry) × (e.event.actor ≡ Hart h) × MayHappen (machine O) s e
-
--- What a hart does is in order, so that this asks something of terminals alone.
-abbrev pub HartsAreInOrder : Type 0
-HartsAreInOrder =
-    (O : Origin) (s : State (machine O)) → IsReached O s → (h : ℕ) (e : Entry)
-    → e.event.actor ≡ Hart h → MayHappen (machine O) s e
-    → IsInOrder (guests_of O s) e.event.step e.carry
-    × IsVcpuInOrder (s (Component component.Dir)).value (λ v. (s (Component (component.Vcpu v))).value) e.event.step
 
 -- A terminal that owes interrupt steps has a next event.
 abbrev pub OwingTerminalHasANextEvent : Type 0

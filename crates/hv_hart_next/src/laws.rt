@@ -1,13 +1,12 @@
 //! Laws of the definitions, each the contract of a function that does nothing.
 ghost use Rattle.hv_hart_next.specs.Next.{ActorHasOneNextEvent, HartHasOneNextEvent};
 ghost use Rattle.hv_hart_next.specs.Next.{HartHasANextEvent, OwingTerminalHasANextEvent};
-ghost use Rattle.hv_hart_next.specs.Next.{HartsAreInOrder, RunningVcpusAreOfTheirGuests};
+ghost use Rattle.hv_hart_next.specs.Next.{RunningVcpusAreOfTheirGuests};
 ghost use Rattle.hv_hart_next.specs.Next.{RoundsHaveOneHistory, RoundsHaveOneReport};
 
 use hv_model::a_history_has_one_report;
 
-/// In each state that a legal history leads to whose events are in order, a hart has one next event
-/// at most: its step, its reply, what it hands over, its index and its stamp.
+/// In each state that a legal history leads to from good plans, a hart has one next event at most: its step, its reply, what it hands over, its index and its stamp.
 pub fn a_hart_has_one_next_event()
     ensures { HartHasOneNextEvent }
 {}
@@ -17,8 +16,7 @@ pub fn an_actor_has_one_next_event()
     ensures { ActorHasOneNextEvent }
 {}
 
-/// A run in rounds whose events are in order has one history, whatever turns harts make, and so one
-/// report.
+/// A run in rounds from good plans has one history, whatever turns harts make, and so one report.
 pub fn rounds_have_one_history()
     ensures history { RoundsHaveOneHistory }
     ensures report { RoundsHaveOneReport }
@@ -26,8 +24,7 @@ pub fn rounds_have_one_history()
     a_history_has_one_report();
 }
 
-/// In each such state of a history that adds VCPUs to the guests of their slots, and lets a slot go
-/// only once no VCPU of it is there, a VCPU that runs is of the guest that has its slot.
+/// In each such state a VCPU that runs is of the guest that has its slot.
 pub fn running_vcpus_are_of_their_guests()
     ensures { RunningVcpusAreOfTheirGuests }
 {}
@@ -35,11 +32,6 @@ pub fn running_vcpus_are_of_their_guests()
 /// And there a hart has a next event unless it is at its end.
 pub fn a_hart_has_a_next_event()
     ensures { HartHasANextEvent }
-{}
-
-/// What a hart does is in order: these laws ask something of terminals alone.
-pub fn harts_are_in_order()
-    ensures { HartsAreInOrder }
 {}
 
 /// A terminal owes interrupt steps alone, and one that owes a step has a next event.

@@ -6,6 +6,6 @@ use Rattle.hv_hart_next.proofs.Vcpus.{born-reached, running-born}
 use Rattle.hv_hart_next.proofs.laws.a_hart_has_a_next_event.Goals as goal
 
 pub returns : goal.returns
-returns c = λ O s is order h below due.
-    hart-exists O s (known-reached O s is) (λ v g runs. running-born O s (born-reached O s is order.boot order.later) v g runs) h
+returns c = λ O s is h below due.
+    hart-exists O s (known-reached O s is) (λ v g runs. running-born O s (born-reached O s is) v g runs) h
     (counts-reached O s is h below) due

@@ -7,9 +7,9 @@ use Rattle.hv_hart_next.proofs.laws.rounds_have_one_history.Goals as goal
 
 pub returns : goal.returns
 returns c = record {
-  history = λ O H K x y order orders. one-history O H K x y order orders;
-  report = λ O H K threads brief text other x y order orders shown told.
-      let same = one-history O H K x y order orders in
+  history = λ O good H K x y. one-history O H K x y good;
+  report = λ O good H K threads brief text other x y shown told.
+      let same = one-history O H K x y good in
       let Shows : List Event → Type 0 = λ h. IsReport O h threads brief other in
       c.a_history_has_one_report.ensures O H threads brief text other shown (subst Shows (sym same) told);
 }

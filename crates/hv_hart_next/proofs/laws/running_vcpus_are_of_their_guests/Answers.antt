@@ -3,4 +3,4 @@ use Rattle.hv_hart_next.proofs.Vcpus.{born-reached, running-born}
 use Rattle.hv_hart_next.proofs.laws.running_vcpus_are_of_their_guests.Goals as goal
 
 pub returns : goal.returns
-returns c = λ O s is order v h runs. running-born O s (born-reached O s is order.boot order.later) v h runs
+returns c = λ O s is v h runs. running-born O s (born-reached O s is) v h runs
