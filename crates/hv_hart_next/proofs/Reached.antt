@@ -1,23 +1,20 @@
 -- What is known of each state that a run leads to whose events are in order: its board and its guests are reached by
 -- steps, and a hart that isn't there stays as at the start.
-use Rattle.std.proofs.Common.{◌≡◌, ℕ, ◌≤◌, ◌||◌, nat_lt, Bool, false, inl, inr, if◌then◌else◌, List, [], ◌∷◌, ◌++◌, map, None, refl, sym, ap, subst, ◌∙◌, arith}
-use Rattle.std.specs.List.{list_any}
+use Rattle.std.proofs.Common.{◌≡◌, ℕ, ◌≤◌, nat_lt, Bool, false, inl, inr, if◌then◌else◌, List, [], ◌∷◌, ◌++◌, None, refl, sym, ap, subst, ◌∙◌, arith}
 use Rattle.hv_event.specs.declared.event.ActorId.TheVariants.{Hart}
-use Rattle.hv_event.specs.declared.event.CellId.{CellId}
-use Rattle.hv_event.specs.declared.event.CellId.TheVariants.{Dir, Shelf, Space, Body}
 use Rattle.hv_laws.specs.Board.{Board, Made, IsStep as IsBoardStep}
 use Rattle.hv_laws.specs.Legal.{board_of}
 use Rattle.hv_laws.specs.Run.{IsRun as IsBoardRun, IsReached as IsBoardReached}
 use Rattle.hv_laws.proofs.Frame.{after-step}
-use Rattle.hv_laws.proofs.Legal.{becomes-by, cell-becomes, ended-or, made_of, starts, step-of}
+use Rattle.hv_laws.proofs.Legal.{cell-becomes, ended-or, made_of, starts, step-of}
 use Rattle.hv_machine.specs.Machine.{MayHappen, State, next_state, state_after, touches}
 use Rattle.hv_machine.specs.Machine.{IsRun as IsMachineRun}
-use Rattle.hv_model.specs.Cell.{Actor, Component, same_cell, same_component}
+use Rattle.hv_model.specs.Cell.{Actor}
 use Rattle.hv_model.specs.declared.entry.Entry.{Entry}
 use Rattle.hv_model.specs.Hart.{HartState, hart_at_start}
 use Rattle.hv_model.specs.Legal.{begun, booted, first, start}
 use Rattle.hv_model.specs.Origin.{Origin}
-use Rattle.hv_model.specs.Rules.{components_of, machine}
+use Rattle.hv_model.specs.Rules.{machine}
 use Rattle.hv_rules.specs.Carry.{Carry}
 use Rattle.hv_rules.specs.Hart.{HartState as Program, HartAgrees, Row, ends, Fits, owed_row, pending_row, turn_row, row_of}
 use Rattle.hv_step.specs.declared.step.Step.{Step}

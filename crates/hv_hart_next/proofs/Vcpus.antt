@@ -1,24 +1,19 @@
 -- A VCPU that is there has the birth of the guest that has its slot: it holds at the start, and each event keeps it that
 -- adds VCPUs to the guest of their slot, and lets a slot go only once no VCPU of it is there.
-use Rattle.std.proofs.Common.{◌≡◌, ℕ, suc, ◌==◌, ◌⊎◌, inl, inr, Bool, true, false, ◌&&◌, if◌then◌else◌, eq-eqb, eqb-true, refl, sym, ap, subst, ◌∙◌, List, [], ◌∷◌, map}
+use Rattle.std.proofs.Common.{◌≡◌, ℕ, suc, ◌==◌, ◌⊎◌, inl, inr, Bool, true, false, if◌then◌else◌, eq-eqb, eqb-true, refl, sym, ap, subst, ◌∙◌, List, [], ◌∷◌, map}
 use Rattle.std.specs.Prelude.{Option, None, Some, Result, Ok, Err}
 use Rattle.std.specs.List.{AllByRecursion, list_any}
 use Rattle.hv_answer.specs.declared.reply.Reply.{Reply}
-use Rattle.hv_answer.specs.declared.reply.Reply.TheVariants as reply
 use Rattle.hv_dir.specs.Directory.{DirState, guest_at}
 use Rattle.hv_dir.specs.declared.refusal.DirRefusal.{DirRefusal}
 use Rattle.hv_event.specs.declared.event.ActorId.{ActorId}
-use Rattle.hv_event.specs.declared.event.ActorId.TheVariants.{Hart, Terminal}
 use Rattle.hv_event.specs.declared.event.CellId.TheVariants as component
-use Rattle.hv_exec.specs.declared.context.After.{After}
-use Rattle.hv_exec.specs.declared.context.After.TheVariants as after
 use Rattle.hv_kinds.specs.declared.address.AddressType.TheVariants.{Memory}
 use Rattle.hv_kinds.specs.declared.stage.Stage.{Stage}
 use Rattle.hv_kinds.specs.declared.state.State.{State as VcpuState}
-use Rattle.hv_kinds.specs.declared.state.State.TheVariants.{Unknown, Reset, Ready, Running, Paused, Halted}
+use Rattle.hv_kinds.specs.declared.state.State.TheVariants.{Running}
 use Rattle.hv_laws.proofs.Frame.{after-step, or-false}
 use Rattle.hv_laws.proofs.Legal.{cell-becomes, ended-or}
-use Rattle.hv_laws.proofs.States.{runs-here}
 use Rattle.hv_machine.specs.Machine.{MayHappen, State, next_state, state_after, touches}
 use Rattle.hv_machine.specs.Machine.{IsRun as IsMachineRun}
 use Rattle.hv_model.specs.Cell.{Actor, Component, same_cell}
@@ -26,20 +21,15 @@ use Rattle.hv_model.specs.declared.entry.Entry.{Entry}
 use Rattle.hv_model.specs.Legal.{begun, booted, first, start}
 use Rattle.hv_model.specs.Origin.{Origin}
 use Rattle.hv_model.specs.Rules.{machine}
-use Rattle.hv_region.specs.declared.plan.VcpuPlan.{VcpuPlan}
 use Rattle.hv_region.specs.declared.window.Window.{Window}
-use Rattle.hv_rules.specs.Carry.{Carry, Pending, load, store}
+use Rattle.hv_rules.specs.Carry.{Carry}
 use Rattle.hv_rules.specs.Dir.{DirAgrees, dir_after}
 use Rattle.hv_rules.specs.Footprint.{components}
 use Rattle.hv_rules.specs.Hart.{slot_of}
-use Rattle.hv_rules.specs.Vcpu.{VcpuAgrees, added, completed, runs_on, vcpu_after}
+use Rattle.hv_rules.specs.Vcpu.{vcpu_after}
 use Rattle.hv_step.specs.declared.step.Step.{Step}
 use Rattle.hv_step.specs.declared.step.Step.TheVariants as step
-use Rattle.hv_vcpu.specs.Instruction.{carried_out}
-use Rattle.hv_vcpu.specs.Table.{is_waiting, led}
-use Rattle.hv_vcpu.specs.Vcpu.{VcpuValue, birth_of, has_interrupt, moved_if, state_after as state_then, stepped, unless_unknown, with_pins}
-use Rattle.hv_vcpu.specs.declared.moves.Move.{Move}
-use Rattle.hv_vcpu.specs.declared.moves.Move.TheVariants as move
+use Rattle.hv_vcpu.specs.Vcpu.{VcpuValue, birth_of, unless_unknown}
 use Rattle.hv_window_laws.specs.Guests.{Guests, LeavesNoWindow}
 use Rattle.hv_window_laws.specs.Windows.{birth_in}
 use Rattle.hv_window_laws.proofs.Births.{Placed, dir-kept, placed-at-start}

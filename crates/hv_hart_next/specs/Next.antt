@@ -1,13 +1,10 @@
 -- What an actor does next, in the states that legal histories lead to, and what comes of a run in rounds.
-use Rattle.std.specs.Prelude.{◌≡◌, ℕ, suc, ◌<◌, Bool, false, List, [], ◌∷◌, Option, None, Some, Result, Ok}
-use Rattle.hv_dir.specs.Directory.{DirState, guest_at}
-use Rattle.hv_dir.specs.declared.refusal.DirRefusal.{DirRefusal}
+use Rattle.std.specs.Prelude.{◌≡◌, ℕ, suc, ◌<◌, Bool, false, List, Some}
 use Rattle.hv_event.specs.declared.event.ActorId.TheVariants.{Hart, Terminal}
 use Rattle.hv_event.specs.declared.event.CellId.TheVariants as component
 use Rattle.hv_event.specs.declared.event.Event.{Event}
-use Rattle.hv_kinds.specs.declared.stage.Stage.{Stage}
-use Rattle.hv_kinds.specs.declared.state.State.TheVariants.{Running, Unknown}
-use Rattle.hv_machine.specs.Machine.{State, MayHappen, next_state}
+use Rattle.hv_kinds.specs.declared.state.State.TheVariants.{Running}
+use Rattle.hv_machine.specs.Machine.{State, MayHappen}
 use Rattle.hv_model.specs.Cell.{Actor, Component}
 use Rattle.hv_model.specs.declared.entry.Entry.{Entry}
 use Rattle.hv_model.specs.Legal.{Leads}
@@ -17,9 +14,6 @@ use Rattle.hv_model.specs.Rounds.{IsRounds, has_ended}
 use Rattle.hv_model.specs.Rules.{machine}
 use Rattle.hv_model.specs.Terminal.{owes_nothing}
 use Rattle.hv_rules.specs.Hart.{slot_of}
-use Rattle.hv_step.specs.declared.step.Step.{Step}
-use Rattle.hv_step.specs.declared.step.Step.TheVariants as step
-use Rattle.hv_vcpu.specs.Vcpu.{VcpuValue}
 use Rattle.hv_order_laws.specs.Orders.{ArePlansGood}
 use Rattle.hv_window_laws.specs.Windows.{birth_in}
 
