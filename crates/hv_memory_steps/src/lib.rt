@@ -14,6 +14,8 @@ mod loads;
 mod looks;
 mod places;
 mod ranges;
+#[cfg(test)]
+mod tests;
 
 pub use accesses::{access, access_shared, access_step, area_accessed};
 pub use fetches::{area_fetched, fetch, fetch_shared};
