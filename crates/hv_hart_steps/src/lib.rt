@@ -10,6 +10,8 @@ mod clocks;
 mod faults;
 mod lengths;
 mod queues;
+#[cfg(test)]
+mod tests;
 mod turns;
 mod vcpus;
 
