@@ -10,6 +10,8 @@ mod fetches;
 mod found;
 mod loads;
 mod looks;
+#[cfg(test)]
+mod tests;
 
 pub use accesses::access_at;
 pub use fetches::fetch_at;
