@@ -1,0 +1,4 @@
+-- Lemmas of lists of components and of the parts that are lifted.
+pub mod Orders
+pub mod Admitted
+pub mod Back

@@ -1,0 +1,3 @@
+-- Steps made on a board.
+pub mod Happened
+pub mod Vcpus
