@@ -191,7 +191,7 @@ fn is_rest(due: &Due<'_>) -> bool {
 }
 
 fn begun_with(due: Due<'_>) -> Begins
-    ensures { result ≡ due.begins }
+    ensures { result ≡ due.entry.begins }
 {
     due.begins
 }
