@@ -12,7 +12,7 @@ use hv_refusal::Refusal;
 use hv_region::{Form, GuestPlan, RegionPlan, VcpuPlan};
 use hv_step::{ByGuest, Kick, Rest, Step};
 use hv_text::{Bytes, Items};
-use hv_words::Command;
+use hv_words::{Command, count_lines};
 use std::alloc::{AllocError, Global};
 use std::test::Fail;
 
@@ -212,6 +212,9 @@ fn a_terminal_rests_and_ends(rt: HostRuntime) -> Result<(), Fail> {
     let plans = Plans::new(Items::new(rt.alloc()));
     let boot = text_of(rt.alloc(), b"term rest 1\n")?;
     let own = text_of(rt.alloc(), b"")?;
+    if count_lines(boot.as_slice()) > 1 || count_lines(own.as_slice()) > 1 {
+        return Err(Fail::from("each has a line at most"));
+    }
     let mut terminal = Terminal::new(rt.alloc(), &plans, Some(boot), own)?;
     terminal.make_room()?;
     assert!(rt; !terminal.is_at_boot_end());
