@@ -1,0 +1,2 @@
+-- What is known of a step of a terminal that may happen.
+pub mod Replied

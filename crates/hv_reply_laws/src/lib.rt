@@ -1,0 +1,6 @@
+//! Laws of the replies to terminals' steps, from the rules of the components.
+#![tactic(auto)]
+
+mod laws;
+
+pub use laws::{memory_shown_ends_within, steps_bring_regions_of_the_board, steps_are_replied_to};
