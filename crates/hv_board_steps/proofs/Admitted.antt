@@ -1,19 +1,18 @@
 -- The directory admits a step at the parts that are lifted where it does so on the board.
 use Rattle.std.proofs.Common.{◌≡◌, ℕ, List, [], ◌∷◌, map, Option, Some, None, refl, sym, ap, subst, ◌∙◌}
 use Rattle.std.specs.Prelude.{IsSome}
-use Rattle.hv_board.specs.Board.{IsFull, IsWhole, part_at}
+use Rattle.hv_board.specs.Board.{IsWhole, part_at}
 use Rattle.hv_board.specs.Carrying.{AreFrom, empty}
 use Rattle.hv_board.specs.Lifted.{IsLifted, IsNext}
 use Rattle.hv_board.specs.Places.{place_of}
 use Rattle.hv_board.specs.declared.board.Board.{Board}
-use Rattle.hv_board.specs.declared.cell.Cell.{Cell}
 use Rattle.hv_board.specs.declared.lifted.Lifted.{Lifted}
 use Rattle.hv_dir.specs.Directory.{DirState}
 use Rattle.hv_emu.specs.Device.{DevState}
 use Rattle.hv_event.specs.declared.event.CellId.{CellId}
 use Rattle.hv_event.specs.declared.event.CellId.TheVariants as component
 use Rattle.hv_kinds.specs.declared.generation.Generation.{Generation}
-use Rattle.hv_parts.specs.Admission.{IsAdmitted, IsAdmittedBy}
+use Rattle.hv_parts.specs.Admission.{IsAdmittedBy}
 use Rattle.hv_parts.specs.Kinds.{IsPartOf, AreOf}
 use Rattle.hv_parts.specs.Value.{PartValue, valued, Dir}
 use Rattle.hv_parts.specs.declared.part.Part.{Part}

@@ -1,5 +1,5 @@
 -- Parts at which a step was made, as they go back.
-use Rattle.std.proofs.Common.{◌≡◌, ℕ, suc, List, [], ◌∷◌, ◌++◌, length, map, take, drop, refl, sym, ap, subst, ◌∙◌, arith}
+use Rattle.std.proofs.Common.{◌≡◌, ℕ, suc, List, [], ◌∷◌, ◌++◌, length, map, take, drop, refl, sym, ap, subst, ◌∙◌}
 use Rattle.std.proofs.lemmas.List.{length-map, take_at}
 use Rattle.std.specs.Prelude.{Result, Ok, Err, IfOk}
 use Rattle.hv_board.proofs.LiftLemmas.{take-long}
@@ -14,7 +14,7 @@ use Rattle.hv_parts.specs.Value.{PartValue, valued}
 use Rattle.hv_parts.specs.declared.part.Part.{Part}
 use Rattle.hv_step.specs.declared.step.Step.{Step}
 
-are-long : (xs : List CellId) (vs : List PartValue) → AreOf xs vs → length vs ≡ length xs
+pub are-long : (xs : List CellId) (vs : List PartValue) → AreOf xs vs → length vs ≡ length xs
 are-long [] [] are = refl
 are-long [] (v ∷ vs) are = absurd are
 are-long (x ∷ xs) [] are = absurd are

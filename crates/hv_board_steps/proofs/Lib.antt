@@ -2,3 +2,7 @@
 pub mod Orders
 pub mod Admitted
 pub mod Back
+pub mod Lifts
+pub mod Found
+pub mod Ends
+pub mod Touching

@@ -1,12 +1,12 @@
 -- Lists of components that stand in the order of locks.
-use Rattle.std.proofs.Common.{◌≡◌, ◌<◌, ◌≤◌, ◌+◌, ◌%◌, ℕ, zero, suc, List, [], ◌∷◌, ◌++◌, map, Option, Some, None, refl, ap, ◌∙◌, arith}
+use Rattle.std.proofs.Common.{◌≡◌, ◌<◌, ◌≤◌, ◌+◌, ℕ, zero, suc, List, [], ◌∷◌, ◌++◌, map, Option, Some, None, refl, ap, ◌∙◌, arith}
 use Rattle.std.proofs.lemmas.List.{map-append}
 use Rattle.std.proofs.lemmas.Nat.{mod_below}
 use Rattle.std.specs.List.{AllByRecursion, range_with_len}
 use Rattle.std.specs.Prelude.{IsSome}
 use Rattle.hv_board.specs.Board.{AreInOrder}
 use Rattle.hv_board.specs.Held.{IsRising}
-use Rattle.hv_board.specs.Places.{HasPlace, first_queue, first_vcpu, place_of}
+use Rattle.hv_board.specs.Places.{HasPlace, first_queue, place_of}
 use Rattle.hv_board.specs.declared.layout.Layout.{Layout}
 use Rattle.hv_event.specs.declared.event.CellId.{CellId}
 use Rattle.hv_event.specs.declared.event.CellId.TheVariants as component

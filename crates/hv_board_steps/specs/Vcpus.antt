@@ -1,5 +1,6 @@
 -- Steps of terminals on VCPUs.
-use Rattle.std.specs.Prelude.{◌≡◌, ◌<◌, ℕ, Option, None, Some, IsSome, List, [], ◌∷◌, ◌++◌}
+use Rattle.std.specs.Prelude.{◌≡◌, ◌<◌, ℕ, Option, None, Some, IsSome, List, [], ◌∷◌}
+use Rattle.hv_answer.specs.declared.reply.Reply.{Reply}
 use Rattle.hv_answer.specs.declared.reply.Reply.TheVariants as reply
 use Rattle.hv_board.specs.Board.{part_at}
 use Rattle.hv_board.specs.declared.board.Board.{Board}
@@ -8,9 +9,10 @@ use Rattle.hv_event.specs.declared.event.ActorId.TheVariants.{Terminal}
 use Rattle.hv_event.specs.declared.event.CellId.{CellId}
 use Rattle.hv_event.specs.declared.event.CellId.TheVariants as component
 use Rattle.hv_parts.specs.Admission.{IsAdmittedBy}
-use Rattle.hv_parts.specs.Value.{PartValue, Dir}
+use Rattle.hv_parts.specs.Value.{Dir}
 use Rattle.hv_parts.specs.declared.part.Part.TheVariants as part
-use Rattle.hv_rules.specs.Carry.{nothing}
+use Rattle.hv_region.specs.declared.plan.VcpuPlan.{VcpuPlan}
+use Rattle.hv_rules.specs.Carry.{Carry, nothing}
 use Rattle.hv_rules.specs.Footprint.{components}
 use Rattle.hv_step.specs.declared.step.ByGuest.{ByGuest}
 use Rattle.hv_step.specs.declared.step.Step.{Step}
@@ -27,6 +29,10 @@ IsVcpusStep (step.Reset s) = s.vcpu < VCPUS
 IsVcpusStep (step.Vdrop s) = s.vcpu < VCPUS
 IsVcpusStep (step.Look s) = s.vcpu < VCPUS
 IsVcpusStep _ = ⊥
+
+-- Index and plan of a VCPU are handed over.
+abbrev pub OfVcpu : (vcpu : Option (ℕ × VcpuPlan)) → Reply → Carry → Type 0
+OfVcpu vcpu r c = c.vcpu ≡ vcpu
 
 -- The guest by whose name a step changes its VCPU, if it does so by a name.
 abbrev pub guest_by : Step → Option ByGuest

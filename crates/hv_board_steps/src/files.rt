@@ -1,12 +1,11 @@
 //! Steps whose reply the files alone decide.
-ghost use Rattle.std.specs.Prelude.{◌≡◌, ◌∷◌, ◌≤◌, [], IfErr, IfOk};
+ghost use Rattle.std.specs.Prelude.{◌≡◌, ◌≤◌, IfErr, IfOk};
 ghost use Rattle.hv_board.specs.Board.{IsWhole};
-ghost use Rattle.hv_event.specs.declared.event.CellId.TheVariants as component;
 ghost use Rattle.hv_fpart.specs.Part.{IsFilesStep};
 ghost use Rattle.hv_text.specs.declared.limits.TheConstants.{GREATEST_STAMP};
-ghost use Rattle.hv_board_steps.specs.Happened.{IsHappened, IsHeldUp};
+ghost use Rattle.hv_board_steps.specs.Happened.{Anything, IsHappened, IsHeldUp};
 
-use crate::finish::finish;
+use crate::ending::finish;
 use crate::happened::Happened;
 use hv_board::{Board, Stop};
 use hv_emu::Emulator;
@@ -28,10 +27,10 @@ pub fn files_event<E: Emulator>(
     requires step { IsFilesStep step.now }
     ensures whole { IsWhole E.state board.new }
     ensures layout { board.new.layout ≡ board.old.layout }
-    ensures happened { IfOk result (λ happened. IsHappened E.state by own (component.Files ∷ [])
-        step.now board.old board.new happened) }
-    ensures held_up { IfErr result (λ why. IsHeldUp E.state own (component.Files ∷ [])
-        board.old board.new why) }
+    ensures happened { IfOk result (λ happened. IsHappened E.state by own step.now board.old
+        board.new happened) }
+    ensures held_up { IfErr result (λ why. IsHeldUp E.state by own step.now Anything board.old
+        board.new why) }
 {
     let xs = [CellId::Files];
     let mut lifted = board.lift(own, &xs)?;

@@ -7,10 +7,10 @@ ghost use Rattle.hv_parts.specs.Kinds.{AreOf};
 ghost use Rattle.hv_parts.specs.Takes.{IsMadeAt};
 ghost use Rattle.hv_parts.specs.Value.{valued};
 ghost use Rattle.hv_text.specs.declared.limits.TheConstants.{GREATEST_STAMP};
-ghost use Rattle.hv_board_steps.specs.Happened.{IsHappened, IsHeldUp};
+ghost use Rattle.hv_board_steps.specs.Happened.{Anything, IsHappened, IsHeldUp};
 ghost use Rattle.hv_board_steps.specs.Vcpus.{IsAdmittedOn, IsShown, IsVcpusStep, guest_by, touched_by};
 
-use crate::finish::finish;
+use crate::ending::finish;
 use crate::happened::Happened;
 use crate::touched::{home_parts, queue_parts, vcpu_alone};
 use hv_board::{Board, Stop};
@@ -83,10 +83,10 @@ pub fn vcpus_event<E: Emulator>(
     requires admitted { IsAdmittedOn board.old (guest_by step.now) }
     ensures whole { IsWhole E.state board.new }
     ensures layout { board.new.layout ≡ board.old.layout }
-    ensures happened { IfOk result (λ happened. IsHappened E.state by own
-        (touched_by board.old.layout.harts step.now) step.now board.old board.new happened) }
-    ensures held_up { IfErr result (λ why. IsHeldUp E.state own
-        (touched_by board.old.layout.harts step.now) board.old board.new why) }
+    ensures happened { IfOk result (λ happened. IsHappened E.state by own step.now board.old
+        board.new happened) }
+    ensures held_up { IfErr result (λ why. IsHeldUp E.state by own step.now Anything board.old
+        board.new why) }
 {
     let harts = board.layout().harts;
     let xs = touched(alloc, harts, step)?;

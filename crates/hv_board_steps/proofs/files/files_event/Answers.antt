@@ -1,7 +1,27 @@
-use Rattle.std.proofs.Common.{[], ◌∷◌, sym, arith}
+use Rattle.std.proofs.Common.{rules, ◌≡◌, Err, [], ◌∷◌, refl, sym, arith}
+use Rattle.std.specs.Prelude.{Result}
+use Rattle.hv_answer.specs.declared.reply.Reply.TheVariants as reply
+use Rattle.hv_board.specs.declared.stop.Stop.{Stop}
+use Rattle.hv_board.specs.declared.stop.Stop.TheVariants.{Spent}
 use Rattle.hv_event.specs.declared.event.CellId.TheVariants as component
+use Rattle.hv_rules.specs.Carry.{nothing}
+use Rattle.hv_text.specs.declared.limits.TheConstants.{GREATEST_STAMP}
 use Rattle.hv_board_steps.proofs.Back.{made-back}
+use Rattle.hv_board_steps.proofs.Ends.{err-held, finds, memory-held}
+use Rattle.hv_board_steps.proofs.Touching.{files-alone, files-touch}
+use Rattle.hv_board_steps.specs.Happened.{Anything}
+use Rattle.hv_board_steps.specs.declared.happened.Happened.{Happened}
 use Rattle.hv_board_steps.proofs.files.files_event.Goals as goal
+
+pub returns-in_err-lifted-clause-held_up : goal.returns-in_err-lifted-clause-held_up
+returns-in_err-lifted-clause-held_up g c =
+    let board = c.args.board.now in
+    let s = c.args.step.now in
+    let by = c.args.by in
+    let spent = c.in_err-lifted.ensures.spent in
+    let is : ◌≡◌ {A = Result (Happened g.row.E.Denot) Stop} c.from_residual.result (Err (Spent GREATEST_STAMP)) = search rules in
+    err-held g.E.Emulator.state by c.args.own s Anything board c.lift.new.self c.from_residual.result is spent.1
+    (finds board by c.args.own s Anything reply.Rest nothing (component.Files ∷ []) (files-touch board.layout.harts by s c.requires.step) (files-alone s c.requires.step) tt (record { rising = (tt, tt); have = (tt, tt) }) spent.0)
 
 pub finish-requires-clause-made : goal.finish-requires-clause-made
 finish-requires-clause-made g c =
@@ -12,7 +32,6 @@ finish-requires-clause-made g c =
     (c.in-Ok.ensures.made c.lift.new.self.layout.harts c.args.by)
 
 pub returns-in-Err-clause-held_up : goal.returns-in-Err-clause-held_up
-returns-in-Err-clause-held_up g c = record {
-  holds = rw (sym c.in_ok-lifted.ensures.next.before_is) c.put_back.ensures.holds;
-  spent = λ stamp is. absurd (cc is);
-}
+returns-in-Err-clause-held_up g c =
+    memory-held g.E.Emulator.state c.args.by c.args.own c.args.step.now Anything c.args.board.now c.put_back.new.self _ c.in-Err.error
+    (rw (sym c.in_ok-lifted.ensures.next.before_is) c.put_back.ensures.holds) refl

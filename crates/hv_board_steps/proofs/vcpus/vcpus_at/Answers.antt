@@ -3,7 +3,6 @@ use Rattle.std.specs.Prelude.{IfOk}
 use Rattle.hv_event.specs.declared.event.ActorId.{ActorId}
 use Rattle.hv_parts.specs.Takes.{IsMadeAt}
 use Rattle.hv_step.specs.declared.step.Step.{Step}
-use Rattle.hv_step.specs.declared.step.Step.TheVariants as steps
 use Rattle.hv_board_steps.proofs.Back.{if-ok}
 use Rattle.hv_board_steps.specs.Vcpus.{touched_by}
 use Rattle.hv_board_steps.proofs.vcpus.vcpus_at.Goals as goal

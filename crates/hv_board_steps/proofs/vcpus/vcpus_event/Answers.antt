@@ -1,4 +1,15 @@
-use Rattle.std.proofs.Common.{◌≡◌, ◌∙◌, ℕ, map, sym, ap, subst, arith}
+use Rattle.std.proofs.Common.{rules, ◌≡◌, ◌∙◌, ℕ, Err, map, refl, sym, ap, subst, arith}
+use Rattle.std.specs.Prelude.{Result}
+use Rattle.hv_answer.specs.declared.reply.Reply.TheVariants as reply
+use Rattle.hv_board.specs.Board.{greatest_at}
+use Rattle.hv_board.specs.declared.stop.Stop.{Stop}
+use Rattle.hv_board.specs.declared.stop.Stop.TheVariants.{Spent}
+use Rattle.hv_rules.specs.Carry.{nothing}
+use Rattle.hv_text.specs.declared.limits.TheConstants.{GREATEST_STAMP}
+use Rattle.hv_board_steps.proofs.Ends.{err-held, finds, memory-held}
+use Rattle.hv_board_steps.proofs.Touching.{vcpus-alone, vcpus-touch}
+use Rattle.hv_board_steps.specs.Happened.{Anything}
+use Rattle.hv_board_steps.specs.declared.happened.Happened.{Happened}
 use Rattle.hv_board.specs.Board.{AreInOrder}
 use Rattle.hv_board.specs.declared.board.Board.{Board}
 use Rattle.hv_board.specs.declared.layout.Layout.{Layout}
@@ -53,8 +64,22 @@ finish-requires-clause-made g c =
     made-back state c.lift.new.self.layout.harts c.args.by c.deref-in-Ok.result.now step made olds news lifted.were.value.items lifted.parts.items lifted.parts.len
     (omega (arith, lifted.parts.ok.0)) c.deref_mut.ensures.value next.parts kinds at
 
+pub returns-in_err-lifted-clause-held_up : goal.returns-in_err-lifted-clause-held_up
+returns-in_err-lifted-clause-held_up g c =
+    let board = c.args.board.now in
+    let s = c.args.step.now in
+    let by = c.args.by in
+    let harts = board.layout.harts in
+    let shown = admitted-shown g.E.Emulator.state board (guest_by s) c.requires.whole c.requires.admitted in
+    let are : c.deref.result.now ≡ touched_by harts s =
+    c.deref.ensures.value ∙ (c.in_ok-xs.ensures ∙ ap (λ (l : Layout). touched_by l.harts s) c.layout-harts.ensures) in
+    let spent = c.in_err-lifted.ensures.spent in
+    let is : ◌≡◌ {A = Result (Happened g.row.E.Denot) Stop} c.from_residual-in_err-lifted.result (Err (Spent GREATEST_STAMP)) = search rules in
+    err-held g.E.Emulator.state by c.args.own s Anything board c.lift.new.self c.from_residual-in_err-lifted.result is spent.1
+    (finds board by c.args.own s Anything reply.Rest nothing (touched_by harts s) (vcpus-touch harts by s c.requires.step) (vcpus-alone s c.requires.step) tt
+    (touched-in-order board.layout s c.requires.step shown c.requires.harts) (sym (ap (greatest_at board c.args.own) are) ∙ spent.0))
+
 pub returns-clause-held_up : goal.returns-clause-held_up
-returns-clause-held_up g c = record {
-  holds = rw (sym c.in_ok-lifted.ensures.next.before_is) c.put_back.ensures.holds;
-  spent = λ stamp is. absurd (cc is);
-}
+returns-clause-held_up g c =
+    memory-held g.E.Emulator.state c.args.by c.args.own c.args.step.now Anything c.args.board.now c.put_back.new.self _ c.in-Err.error
+    (rw (sym c.in_ok-lifted.ensures.next.before_is) c.put_back.ensures.holds) refl

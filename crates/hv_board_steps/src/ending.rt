@@ -13,7 +13,7 @@ use hv_handed::Made;
 use hv_step::Step;
 
 /// Puts the parts back with the event's stamp, once a step was made at them.
-pub(crate) fn finish<E: Emulator>(
+pub fn finish<E: Emulator>(
     board: &mut Board<E>,
     lifted: Lifted<E>,
     by: ActorId,
@@ -28,7 +28,8 @@ pub(crate) fn finish<E: Emulator>(
         lifted.were.value.items lifted.parts.items }
     ensures whole { IsWhole E.state board.new }
     ensures layout { board.new.layout ≡ board.old.layout }
-    ensures happened { IsHappened E.state by own xs.now step.now lifted.before.value board.new result }
+    ensures happened { IsHappened E.state by own step.now lifted.before.value board.new result }
+    ensures made { result.made ≡ made }
 {
     let _ = own;
     let stamp = lifted.stamp;
