@@ -1,0 +1,34 @@
+-- Steps that were made, told in other words.
+use Rattle.std.proofs.Common.{◌≡◌, ℕ, List, sym, subst}
+use Rattle.std.specs.Prelude.{Result, IfOk}
+use Rattle.std.specs.declared.alloc.AllocError.{AllocError}
+use Rattle.hv_board_steps.proofs.Back.{if-ok}
+use Rattle.hv_emu.specs.Device.{DevState}
+use Rattle.hv_event.specs.declared.event.ActorId.{ActorId}
+use Rattle.hv_event.specs.declared.event.CellId.{CellId}
+use Rattle.hv_handed.specs.declared.told.Made.{Made}
+use Rattle.hv_parts.specs.Takes.{IsMadeAt}
+use Rattle.hv_parts.specs.declared.part.Part.{Part}
+use Rattle.hv_step.specs.declared.step.Step.{Step}
+
+module _ {E : Type 0} (state : E → DevState) where
+  -- A step of any actor was made on a board of any number of harts.
+  abbrev pub AnyMade : List CellId → Step → Made E → (old new : List (Part E)) → Type 0
+  AnyMade xs s made old new = (harts : ℕ) (by : ActorId) → IsMadeAt state harts by xs s made old new
+
+  -- The step and what it touches are named otherwise.
+  pub made-as : (s t : Step) (xs ys : List CellId) (made : Made E) (old new : List (Part E)) → s ≡ t → xs ≡ ys → AnyMade xs t made old new → AnyMade ys s made old new
+  made-as s t xs ys made old new is same at =
+      subst (λ u. AnyMade ys u made old new) (sym is) (subst (λ zs. AnyMade zs t made old new) same at)
+
+  -- The same where memory did not run out.
+  pub ok-as : (r : Result (Made E) AllocError) (s t : Step) (xs ys : List CellId) (old new : List (Part E)) → s ≡ t → xs ≡ ys
+      → IfOk r (λ made. AnyMade xs t made old new) → IfOk r (λ made. AnyMade ys s made old new)
+  ok-as r s t xs ys old new is same at =
+      if-ok r (λ made. AnyMade xs t made old new) (λ made. AnyMade ys s made old new) (λ made here. made-as s t xs ys made old new is same here) at
+
+  -- A step was made at the parts that are out, and left them as they are.
+  pub made-in-place : (harts : ℕ) (by : ActorId) (xs : List CellId) (s : Step) (made : Made E) (ps were items : List (Part E)) → ps ≡ items → items ≡ were
+      → IsMadeAt state harts by xs s made ps ps → IsMadeAt state harts by xs s made were items
+  made-in-place harts by xs s made ps were items is same at =
+      subst (λ ws. IsMadeAt state harts by xs s made ws items) same (subst (λ qs. IsMadeAt state harts by xs s made qs qs) is at)

@@ -1,0 +1,3 @@
+-- Which steps are made on guests, and what is wanted of them.
+pub mod Kinds
+pub mod Owed
