@@ -1,0 +1,2 @@
+-- Regions of guests that are added and dropped on a board.
+pub mod Regions
