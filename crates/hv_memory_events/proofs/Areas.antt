@@ -1,8 +1,7 @@
 -- Windows that are found lead to rows, and areas that are shown are there.
-use Rattle.std.proofs.Common.{◌≡◌, ◌<◌, ◌≤◌, ◌+◌, ℕ, List, Bool, true, false, nat_le, Option, None, Some, refl, sym, ap, subst, ◌∙◌, arith}
+use Rattle.std.proofs.Common.{◌≡◌, ◌<◌, ◌≤◌, ◌+◌, ℕ, List, Bool, true, false, nat_le, Option, None, Some, refl, subst, arith}
 use Rattle.std.proofs.lemmas.Bool.{leb-true}
-use Rattle.std.specs.Prelude.{if◌then◌else◌, option_and_then}
-use Rattle.hv_board.specs.Board.{part_at}
+use Rattle.std.specs.Prelude.{if◌then◌else◌}
 use Rattle.hv_board.specs.declared.board.Board.{Board}
 use Rattle.hv_board_steps.proofs.Found.{found}
 use Rattle.hv_board_steps.specs.Sound.{HasArea, LeadToRows}
@@ -14,10 +13,8 @@ use Rattle.hv_body.specs.declared.contents.Contents.{Contents}
 use Rattle.hv_body.specs.declared.contents.Contents.TheVariants.{Writable, ReadOnly, Emulated, Shared}
 use Rattle.hv_body.specs.declared.live.Live.{Live}
 use Rattle.hv_emu.specs.Device.{DevState}
-use Rattle.hv_event.specs.declared.event.CellId.TheVariants as component
 use Rattle.hv_kinds.specs.declared.address.AddressType.{AddressType}
 use Rattle.hv_memory_steps.specs.Ranges.{shown_range}
-use Rattle.hv_region.specs.declared.plan.Form.{Form}
 use Rattle.hv_region.specs.declared.plan.RegionPlan.{RegionPlan}
 use Rattle.hv_region.specs.declared.window.Window.{Window}
 use Rattle.hv_rules.specs.Body.{no_memory, range_in, shared_in}

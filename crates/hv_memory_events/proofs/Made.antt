@@ -1,5 +1,5 @@
 -- Steps that reach memory and were made, told in other words.
-use Rattle.std.proofs.Common.{◌≡◌, ℕ, List, ◌∷◌, Option, Some, sym, ap, subst}
+use Rattle.std.proofs.Common.{◌≡◌, ℕ, List, ◌∷◌, Option, Some, sym, subst}
 use Rattle.std.specs.Prelude.{IfOk, Ok, Result}
 use Rattle.std.specs.declared.alloc.AllocError.{AllocError}
 use Rattle.hv_board_steps.proofs.Back.{if-ok}
@@ -8,7 +8,6 @@ use Rattle.hv_emu.specs.Device.{DevState}
 use Rattle.hv_event.specs.declared.event.ActorId.{ActorId}
 use Rattle.hv_event.specs.declared.event.CellId.{CellId}
 use Rattle.hv_event.specs.declared.event.CellId.TheVariants as component
-use Rattle.hv_guest_steps.specs.Admission.{asked_of, shown_by}
 use Rattle.hv_handed.specs.declared.told.Made.{Made}
 use Rattle.hv_kinds.specs.declared.generation.Generation.{Generation}
 use Rattle.hv_kinds.specs.declared.stage.Stage.TheVariants as stages

@@ -1,5 +1,5 @@
 -- What stands where a step reaches memory is what the board has.
-use Rattle.std.proofs.Common.{◌≡◌, ◌<◌, ◌≤◌, ◌+◌, ℕ, List, [], ◌∷◌, length, map, Option, None, Some, refl, sym, ap, subst, ◌∙◌, arith}
+use Rattle.std.proofs.Common.{◌≡◌, ◌<◌, ◌≤◌, ◌+◌, ℕ, List, [], ◌∷◌, map, Option, None, Some, refl, sym, ap, subst, ◌∙◌, arith}
 use Rattle.std.specs.Prelude.{IfSome}
 use Rattle.hv_access_steps.specs.First.{HasBytes, IsLong, LastHas, area_first, area_for, behind, size_first, window_first, window_for}
 use Rattle.hv_board.specs.Board.{AreInOrder, part_at}
@@ -7,7 +7,7 @@ use Rattle.hv_board.specs.declared.board.Board.{Board}
 use Rattle.hv_board.specs.declared.layout.Layout.{Layout}
 use Rattle.hv_board_steps.proofs.Lifts.{AreOn}
 use Rattle.hv_board_steps.specs.Sound.{length_of}
-use Rattle.hv_board_steps.specs.Values.{body_of, space_of, space_on}
+use Rattle.hv_board_steps.specs.Values.{body_of, space_of}
 use Rattle.hv_emu.specs.Device.{DevState}
 use Rattle.hv_event.specs.declared.event.CellId.{CellId}
 use Rattle.hv_event.specs.declared.event.CellId.TheVariants as component
@@ -20,11 +20,11 @@ use Rattle.hv_parts.specs.declared.part.Part.{Part}
 use Rattle.hv_parts.specs.declared.part.Part.TheVariants as part
 use Rattle.hv_region.specs.declared.window.Window.{Window}
 use Rattle.hv_rules.specs.Body.{shared_in}
-use Rattle.hv_rules.specs.Footprint.{reached_by, shared_area}
+use Rattle.hv_rules.specs.Footprint.{reached_by}
 use Rattle.hv_rules.specs.Windows.{window_at}
 use Rattle.hv_step.specs.declared.step.Load.{Load}
-use Rattle.hv_text.specs.declared.limits.TheConstants.{GUEST_REGIONS, SLOTS}
-use Rattle.hv_memory_events.specs.Reached.{HasBytesOn, IsArea, LeadsToRow, area_on, area_shown, load_parts, mem_parts, size_in, size_on, window_on}
+use Rattle.hv_text.specs.declared.limits.TheConstants.{SLOTS}
+use Rattle.hv_memory_events.specs.Reached.{HasBytesOn, LeadsToRow, area_on, load_parts, mem_parts, size_in, size_on, window_on}
 
 module _ {E : Type 0} (state : E → DevState) where
   size-here : (s : Load) (p : Part E) (vs : List PartValue) → size_first s (valued state p ∷ vs) ≡ size_in (Some p) s.path

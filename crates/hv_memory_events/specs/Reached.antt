@@ -1,5 +1,5 @@
 -- What steps that reach the memory of guests from outside reach on a board.
-use Rattle.std.specs.Prelude.{◌≡◌, ◌<◌, ◌≤◌, ◌+◌, ℕ, List, [], ◌∷◌, Option, Some, None, IfSome, option_and_then}
+use Rattle.std.specs.Prelude.{◌<◌, ◌≤◌, ◌+◌, ℕ, List, ◌∷◌, Option, Some, None, IfSome, option_and_then}
 use Rattle.hv_access_steps.specs.First.{size_of}
 use Rattle.hv_board.specs.Board.{part_at}
 use Rattle.hv_board.specs.declared.board.Board.{Board}

@@ -39,7 +39,7 @@ add-made : (harts : ℕ) (by : ActorId) (s : Step) (guest : Generation) (row : �
     → Outcome harts by s (reply.Add (Ok no_changes)) (handing row (Some plan) target) (changed_parts guest (changed_row row target))
 add-made harts by (step.Add s) guest row plan target is shown = (
   ap (λ (g : Option Generation). past_dir g (λ there. component.Shelf ∷ component.Space there.slot ∷ changed_body there (Some row) target)) shown
-  ∙ ap (λ (ys : List CellId). component.Dir ∷ component.Shelf ∷ component.Space guest.slot ∷ ys) (changes guest row target),
+      ∙ ap (λ (ys : List CellId). component.Dir ∷ component.Shelf ∷ component.Space guest.slot ∷ ys) (changes guest row target),
   refl,
 )
 add-made harts by _ guest row plan target is shown = absurd is
@@ -56,7 +56,7 @@ drop-made : (harts : ℕ) (by : ActorId) (s : Step) (guest : Generation) (row : 
     → Outcome harts by s (reply.Drop (Ok no_changes)) (handing row None target) (changed_parts guest (changed_row row target))
 drop-made harts by (step.Drop s) guest row target is shown = (
   ap (λ (g : Option Generation). past_dir g (λ there. component.Shelf ∷ component.Space there.slot ∷ changed_body there (Some row) target)) shown
-  ∙ ap (λ (ys : List CellId). component.Dir ∷ component.Shelf ∷ component.Space guest.slot ∷ ys) (changes guest row target),
+      ∙ ap (λ (ys : List CellId). component.Dir ∷ component.Shelf ∷ component.Space guest.slot ∷ ys) (changes guest row target),
   refl,
 )
 drop-made harts by _ guest row target is shown = absurd is

@@ -191,11 +191,7 @@ fn not_added<E: Emulator>(
     ensures held_up { IfErr result (λ why. IsHeldUp E.state by own step.now
         (OfPlan at.row plan.now at.vcpus) board.old board.new why) }
 {
-    let xs = [
-        CellId::Dir,
-        CellId::Shelf,
-        CellId::Space(at.guest.slot),
-    ];
+    let xs = [CellId::Dir, CellId::Shelf, CellId::Space(at.guest.slot)];
     let lifted = board.lift(own, &xs)?;
     let made = not_added_parts(step, at, plan, why, &lifted.parts);
     Ok(finish(board, lifted, by, own, &xs, step, made))

@@ -8,8 +8,6 @@
 
 mod adding;
 mod removal;
-#[cfg(test)]
-mod tests;
 
 pub use adding::add_event;
 pub use removal::drop_event;

@@ -179,11 +179,7 @@ fn not_live<E: Emulator>(
     ensures held_up { IfErr result (λ why. IsHeldUp E.state by own step.now (OfRow row) board.old
         board.new why) }
 {
-    let xs = [
-        CellId::Dir,
-        CellId::Shelf,
-        CellId::Space(guest.slot),
-    ];
+    let xs = [CellId::Dir, CellId::Shelf, CellId::Space(guest.slot)];
     let lifted = board.lift(own, &xs)?;
     let made = not_live_parts(step, guest, row, &lifted.parts);
     Ok(finish(board, lifted, by, own, &xs, step, made))

@@ -1,6 +1,6 @@
-use Rattle.std.proofs.Common.{rules, ◌≡◌, ◌∙◌, ◌∷◌, Err, None, map, refl, sym, ap, subst, arith}
+use Rattle.std.proofs.Common.{rules, ◌≡◌, ◌∙◌, ◌∷◌, Err, None, map, refl, sym, ap, subst}
 use Rattle.std.specs.Prelude.{Result}
-use Rattle.hv_board.specs.Board.{AreInOrder, greatest_at}
+use Rattle.hv_board.specs.Board.{greatest_at}
 use Rattle.hv_board.specs.declared.stop.Stop.{Stop}
 use Rattle.hv_board.specs.declared.stop.Stop.TheVariants.{Spent}
 use Rattle.hv_board_steps.proofs.Ends.{err-held, memory-held}
