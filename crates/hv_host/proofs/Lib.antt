@@ -1,2 +1,3 @@
 pub mod Guests
 pub mod Said
+pub mod Keeps

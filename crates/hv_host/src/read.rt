@@ -4,6 +4,7 @@ ghost use Rattle.std.specs.Option.{option_copied};
 ghost use Rattle.hv_plan.specs.Guests.{guest_node};
 ghost use Rattle.hv_plan.specs.Settings.{IsHost};
 ghost use Rattle.hv_host.specs.Boards.{IsPlanned, ArePlanned, IsBare, SaysBoard, Says};
+ghost use Rattle.hv_host.specs.Rules.{KeepsBoardRules};
 ghost use Rattle.hv_dts.specs.Reading.{IsSourceOf};
 
 use crate::board::Board;
@@ -106,7 +107,9 @@ fn bare_board(alloc: Global) -> Board
 
 /// The board that the text of a host tree says, or that of no host tree.
 pub fn read_board(alloc: Global, text: Option<&[u8]>) -> Result<Board, BoardRefusal>
-    ensures { Says (option_copied text.entry) result }
+    ensures board { Says (option_copied text.entry) result }
+    // What is given has numbers in range, and plans that keep the rules.
+    ensures rules { IfOk result KeepsBoardRules }
 {
     match text {
         Some(text) => {

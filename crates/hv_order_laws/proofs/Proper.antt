@@ -12,7 +12,7 @@ use Rattle.hv_kinds.specs.declared.stage.Stage.{Stage}
 use Rattle.hv_kinds.specs.declared.state.State.{State as VcpuState}
 use Rattle.hv_kinds.specs.declared.state.State.TheVariants.{Unknown, Reset, Ready, Running, Paused, Halted}
 use Rattle.hv_model.specs.Plans.{Planned, good, is_named, plan_of, planned, region_at, region_of, regions_in, regions_of, row_of, vcpus_of}
-use Rattle.hv_plan.specs.Rules.{KeepsRules}
+use Rattle.hv_plan.specs.Rules.{IsGood, KeepsRules}
 use Rattle.hv_region.specs.Plans.{IsRegionPlan}
 use Rattle.hv_region.specs.declared.plan.GuestPlan.{GuestPlan}
 use Rattle.hv_region.specs.declared.plan.RegionPlan.{RegionPlan}
@@ -22,7 +22,7 @@ use Rattle.hv_step.specs.declared.step.Step.TheVariants as step
 use Rattle.hv_text.specs.declared.limits.TheConstants.{GUEST_REGIONS}
 use Rattle.hv_vcpu.specs.Vcpu.{VcpuValue, birth_of, unless_unknown}
 use Rattle.hv_window_laws.specs.Guests.{Guests, IsInOrder, IsRegion, LeavesNoWindow}
-use Rattle.hv_order_laws.specs.Orders.{IsGood, IsVcpuInOrder, LeavesNoVcpu}
+use Rattle.hv_order_laws.specs.Orders.{IsVcpuInOrder, LeavesNoVcpu}
 use Rattle.hv_order_laws.specs.Owners.{Scene}
 use Rattle.hv_order_laws.proofs.Steps.{IsProper, LeavesNothing}
 use Rattle.hv_order_laws.proofs.Windows.{found-one}

@@ -13,9 +13,8 @@ use Rattle.hv_model.specs.Cell.{Actor, Component}
 use Rattle.hv_model.specs.declared.entry.Entry.{Entry}
 use Rattle.hv_model.specs.Legal.{Leads, begun, start}
 use Rattle.hv_model.specs.Origin.{Origin}
-use Rattle.hv_model.specs.Plans.{Planned}
 use Rattle.hv_model.specs.Rules.{machine}
-use Rattle.hv_plan.specs.Rules.{KeepsRules}
+use Rattle.hv_plan.specs.Rules.{IsGood}
 use Rattle.hv_rules.specs.Hart.{slot_of}
 use Rattle.hv_rules.specs.Line.{LineState}
 use Rattle.hv_step.specs.declared.step.Step.{Step}
@@ -25,11 +24,7 @@ use Rattle.hv_window_laws.specs.Legal.{AreInOrder}
 use Rattle.hv_window_laws.specs.Windows.{birth_in}
 use Rattle.hv_order_laws.specs.Owners.{HasOwners, Scene}
 
--- A guest of the host tree that has a plan has one that keeps the rules.
-abbrev pub IsGood : (areas : List (List ℕ × ℕ)) → Planned → Type 0
-IsGood areas (Ok plan) = KeepsRules areas plan
-IsGood areas (Err fault) = Unit {0}
-
+-- The guests of the host tree that have plans have good ones.
 abbrev pub ArePlansGood : Origin → Type 0
 ArePlansGood O = AllByRecursion (IsGood O.opening.areas) O.opening.plans
 

@@ -1,9 +1,10 @@
 -- What holds of each plan that is given.
-use Rattle.std.specs.Prelude.{◌≡◌, ℕ, ◌+◌, ◌<◌, ◌≤◌, false, List, length, All, slice_get, Option, Some, None}
+use Rattle.std.specs.Prelude.{◌≡◌, ℕ, ◌+◌, ◌<◌, ◌≤◌, false, List, length, All, slice_get, Option, Some, None, Result, Ok, Err}
 use Rattle.std.specs.List.{AllPairs, Any}
 use Rattle.hv_text.specs.declared.limits.TheConstants.{GUEST_VCPUS, GUEST_REGIONS, HARTS, MOST_AREAS, MOST_MEMORY}
 use Rattle.hv_kinds.specs.declared.address.AddressType.{AddressType}
 use Rattle.hv_region.specs.Plans.{IsVcpuPlan, IsRegionPlan}
+use Rattle.hv_region.specs.declared.fault.Fault.{Fault}
 use Rattle.hv_region.specs.declared.plan.Form.{Form}
 use Rattle.hv_region.specs.declared.plan.Form.TheVariants.{Real, Alias}
 use Rattle.hv_region.specs.declared.plan.RegionPlan.{RegionPlan}
@@ -57,6 +58,11 @@ pub record KeepsRules (areas : List (List ℕ × ℕ)) (plan : GuestPlan) : Type
   pub in_areas : All (λ region. LiesInArea areas region.size region.form) plan.regions.items
   pub apart : AllPairs LieApart plan.regions.items
   pub targets : All (λ region. HasTarget plan.regions.items region region.form) plan.regions.items
+
+-- a guest that has a plan has one that keeps the rules
+abbrev pub IsGood : List (List ℕ × ℕ) → Result GuestPlan Fault → Type 0
+IsGood areas (Ok plan) = KeepsRules areas plan
+IsGood areas (Err fault) = Unit {0}
 
 -- an area has bytes, no more than memory may have
 pub record IsAreaSize (size : ℕ) : Type 0 where
