@@ -8,3 +8,4 @@ pub mod EventLemmas
 pub mod StayLemmas
 pub mod LiftLemmas
 pub mod StartLemmas
+pub mod CloseLemmas

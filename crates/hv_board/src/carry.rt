@@ -8,7 +8,7 @@ use crate::cell::Cell;
 use hv_parts::Part;
 
 /// Takes the part of a cell out.
-fn lift<E>(cell: &mut Cell<E>) -> Part<E>
+pub fn lift<E>(cell: &mut Cell<E>) -> Part<E>
     requires { IsSome cell.old.part }
     ensures part { cell.old.part ≡ Some result }
     ensures cell { cell.new ≡ record cell.old { part = None } }

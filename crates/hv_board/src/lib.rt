@@ -7,6 +7,7 @@
 mod board;
 mod carry;
 mod cell;
+mod close;
 mod event;
 mod layout;
 mod lifted;
@@ -22,6 +23,7 @@ mod tests;
 pub use board::Board;
 pub use carry::{lift_all, put_all};
 pub use cell::Cell;
+pub use close::close_board;
 pub use layout::Layout;
 pub use lifted::Lifted;
 pub use log::Log;

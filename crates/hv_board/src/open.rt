@@ -163,6 +163,7 @@ pub fn open_board<E: Emulator>(
     requires areas { length opening.now.areas ≤ MOST_AREAS }
     requires files { files ≡ load_files opening.now.files }
     ensures whole { IfOk result (λ board. IsWhole E.state board) }
+    ensures areas { IfOk result (λ board. board.layout.areas ≡ length opening.now.areas) }
     ensures start { IfOk result (λ board. let O = origin_of opening.now (devices_of E.state shelf)
         in Holds E.state O (start O) board) }
 {
