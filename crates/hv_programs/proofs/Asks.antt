@@ -1,4 +1,4 @@
--- The steps of a line are of VCPUs that a guest can have.
+-- The steps of a line are of VCPUs that the board or a guest can have.
 use Rattle.std.proofs.Common.{ℕ, zero, suc, ◌+◌, ◌<◌, ◌≤◌, Bool, true, false, if◌then◌else◌, List, [], ◌∷◌, ◌++◌, get_or, length, replicate, arith}
 use Rattle.std.specs.Prelude.{Some, None}
 use Rattle.hv_kinds.specs.declared.stage.Stage.TheVariants.{Making, Made, Ending}
@@ -34,10 +34,10 @@ are-rests : (count : ℕ) → AreAsks (replicate count line.rest)
 are-rests zero = tt
 are-rests (suc n) = (tt, are-rests n)
 
--- the steps of a line are of VCPUs that its guest can have, where its plan has no more
+-- the steps of a line are of VCPUs that the board or its guest can have, where its plan has no more
 pub steps_are : (asked : Asked) (vcpus : ℕ) (regions : List RegionPlan) → vcpus ≤ GUEST_VCPUS → AreAsks (steps_of asked vcpus regions)
 steps_are (line.rests count) vcpus regions h = are-rests count
-steps_are line.looks vcpus regions h = are-each line.look VCPUS VCPUS (omega arith) (λ n below. tt)
+steps_are line.looks vcpus regions h = are-each line.look VCPUS VCPUS (omega arith) (λ n below. below)
 steps_are (line.create name) vcpus regions h =
     let built : List Ask = of_rows line.add line.is_built 0 regions in
     let aliases : List Ask = of_rows line.add line.is_built_alias 0 regions in

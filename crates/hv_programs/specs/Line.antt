@@ -6,7 +6,7 @@ use Rattle.hv_answer.specs.declared.reply.Reply.TheVariants as reply
 use Rattle.hv_kinds.specs.declared.generation.Generation.{Generation}
 use Rattle.hv_region.specs.declared.plan.GuestPlan.{GuestPlan}
 use Rattle.hv_refusal.specs.declared.refusal.Refusal.{Refusal}
-use Rattle.hv_text.specs.declared.limits.TheConstants.{SLOTS, GUEST_VCPUS, GUEST_REGIONS}
+use Rattle.hv_text.specs.declared.limits.TheConstants.{SLOTS, GUEST_VCPUS, GUEST_REGIONS, VCPUS}
 use Rattle.hv_rules.specs.Carry.{Carry, nothing}
 use Rattle.hv_rules.specs.Line as line
 use Rattle.hv_rules.specs.Line.{Place, ends_for, later_verdict, place_after, why_refused}
@@ -49,8 +49,9 @@ abbrev pub refused_by : Place → Reply → Option Refusal
 refused_by (line.on made todo) r = why_refused (place_after (line.on made todo) r)
 refused_by _ r = None
 
--- A step of a guest's VCPU is of one that a guest can have.
+-- A look is at a VCPU of the board, and a step of a guest's VCPU is of one that a guest can have.
 abbrev pub IsAsk : line.Ask → Type 0
+IsAsk (line.look vcpu) = vcpu < VCPUS
 IsAsk (line.add_vcpu index) = index < GUEST_VCPUS
 IsAsk (line.drop_vcpu index) = index < GUEST_VCPUS
 IsAsk (line.change what index) = index < GUEST_VCPUS

@@ -1,9 +1,10 @@
 //! A terminal's line of several steps.
-ghost use Rattle.std.specs.Prelude.{◌≡◌, ◌+◌, ◌<◌, ◌≤◌, length, slice_get, None, Some, Option, IfOk, IfSome};
+ghost use Rattle.std.specs.Prelude.{◌≡◌, ◌+◌, ◌<◌, ◌≤◌, ◌^◌, drop, length, slice_get, None, Some, Option, IfOk, IfSome};
 ghost use Rattle.std.specs.Option.{option_copied, option_map};
-ghost use Rattle.hv_rules.specs.Line.{begun, begun_for, change_step, first, given_vcpu, guest_name, left, learnt, line_after, name_in, next_step, own_birth, own_vcpu, place_after, region_name, step_of, undoing};
+ghost use Rattle.hv_rules.specs.Line as line;
+ghost use Rattle.hv_rules.specs.Line.{begun, begun_for, change_step, first, given_vcpu, guest_name, left, learnt, line_after, moved, name_in, next_step, own_birth, own_vcpu, place_after, region_name, step_of, undoing};
 ghost use Rattle.hv_programs.specs.Ask.{ask_of, asked_of, change_of, steps_in};
-ghost use Rattle.hv_programs.specs.Line.{AreAsks, GivesSlot, IsAsk, IsGiven, IsGuest, IsPlanned, place_of, refused_by, with_guest};
+ghost use Rattle.hv_programs.specs.Line.{AreAsks, GivesSlot, IsAsk, IsGiven, IsGuest, IsPlanned, latest, place_of, refused_by, verdict_of, with_guest};
 
 use crate::ask::{Ask, Asked, Change, Steps};
 use crate::copied::copy_regions;
@@ -136,6 +137,49 @@ fn refused_in<'a>(way: &Way, steps: &Steps, made: usize, reply: &'a Reply) -> Op
             None
         }
         Way::Back(_) => None,
+        Way::Over(_) => None,
+    }
+}
+
+// The step that is asked next, once so many steps stood and a verdict moved the line.
+fn next_by(verdict: Verdict, steps: &Steps, made: usize) -> Option<Ask>
+    requires stands { made < length (steps_in steps.now) }
+    requires bounded { length (steps_in steps.now) < 2 ^ 64 }
+    requires asks { AreAsks (steps_in steps.now) }
+    ensures { (ask : line.Ask) → option_map ask_of result
+        ≡ first (left (moved (latest (steps_in steps.now) made) ask
+        (drop (made + 1) (steps_in steps.now)) (verdict_of verdict))) }
+{
+    match verdict {
+        Verdict::GoesOn => next_in(&Way::On, steps, made + 1),
+        Verdict::TurnsBack(why) => {
+            let back = Way::Back(why);
+            next_in(&back, steps, made)
+        }
+        Verdict::Ends(_) => None,
+    }
+}
+
+// The step that is asked next, once a line has taken a reply.
+fn next_after(way: &Way, steps: &Steps, made: usize, reply: &Reply) -> Option<Ask>
+    requires stands { made ≤ length (steps_in steps.now) }
+    requires asks { AreAsks (steps_in steps.now) }
+    ensures { option_map ask_of result
+        ≡ first (left (place_after (place_of way.now (steps_in steps.now) made) reply.now)) }
+{
+    match way {
+        Way::On => {
+            if made < steps.len() {
+                return next_by(verdict_at(made, steps.at(made), reply), steps, made);
+            }
+            None
+        }
+        Way::Back(_) => {
+            if made > 0 {
+                return next_in(way, steps, made - 1);
+            }
+            None
+        }
         Way::Over(_) => None,
     }
 }
@@ -276,6 +320,21 @@ impl Line {
         ensures guest { IsGuest self.now.guest }
     {
         next_in(&self.way, &self.steps, self.made)
+    }
+
+    /// What it asks for next once it took this reply, or None where it is over then.
+    pub fn next_ask_after(&self, reply: &Reply) -> Option<Ask>
+        ensures { option_map ask_of result
+            ≡ first (left (place_after self.now.place reply.now)) }
+    {
+        next_after(&self.way, &self.steps, self.made, reply)
+    }
+
+    /// What it asks for as a whole.
+    pub fn asked(&self) -> &Asked
+        ensures { asked_of result.now ≡ self.now.asked }
+    {
+        &self.asked
     }
 
     /// The name of the guest that it is about, or no bytes.

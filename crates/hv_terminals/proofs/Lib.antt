@@ -5,3 +5,5 @@ pub mod Sessions
 pub mod Agreement
 pub mod Terminals
 pub mod OwedSteps
+pub mod Adding
+pub mod Ready

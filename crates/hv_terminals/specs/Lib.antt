@@ -7,3 +7,5 @@ pub mod Work
 pub mod Task
 pub mod Session
 pub mod Terminal
+pub mod Adding
+pub mod Ready

@@ -23,8 +23,9 @@ mod work;
 pub use answer::{RunAnswer, answer_run};
 pub use due::{Begins, Due, Hands, room_for};
 pub use laws::{
-    terminals_agree_to_what_is_due, terminals_open_few_lines, terminals_owe_steps_of_the_board,
-    terminals_start_so,
+    terminals_add_vcpus_of_their_plans, terminals_agree_to_what_is_due,
+    terminals_ask_for_steps_of_the_board, terminals_open_few_lines,
+    terminals_owe_steps_of_the_board, terminals_start_so,
 };
 pub use plans::{Plans, Unplanned, index_of};
 pub use script::OpenScript;

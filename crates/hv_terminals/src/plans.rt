@@ -148,6 +148,14 @@ impl Plans {
         Plans { guests }
     }
 
+    /// The guests themselves, once no terminal goes by them.
+    pub fn into_guests(self) -> Items<Result<GuestPlan, Fault>>
+        ensures { result ≡ self }
+    {
+        let Plans { guests } = self;
+        guests
+    }
+
     /// The guest with a name.
     pub fn planned(&self, name: &[u8]) -> Option<&Result<GuestPlan, Fault>>
         ensures planned { option_copied result ≡ planned self.now name.now }

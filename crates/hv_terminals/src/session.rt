@@ -1,5 +1,6 @@
 //! What a terminal's scripts have come to.
 ghost use Rattle.std.specs.Prelude.{◌≡◌, ◌≤◌, ◌+◌, ◌↔◌, ℕ, None, Some, List, IfOk, IfSome, IsTrue, OnOk, length};
+ghost use Rattle.std.specs.Option.{option_copied};
 ghost use Rattle.hv_text.specs.Lines.{script_lines};
 ghost use Rattle.hv_text.specs.declared.limits.TheConstants.{MOST_LINES};
 ghost use Rattle.hv_step.specs.declared.step.Step.{Step};
@@ -9,7 +10,7 @@ ghost use Rattle.hv_model.specs.Plans.{Planned};
 ghost use Rattle.hv_model.specs.Session.{Begun, HasBooted, HasEnded, begun, goes, kept, lines_run, made_at, makes, present, session_after, tells};
 ghost use Rattle.hv_words.specs.declared.refusal.WordsRefusal.{WordsRefusal};
 ghost use Rattle.hv_programs.specs.Line.{GivesSlot, IsGuest, with_guest};
-ghost use Rattle.hv_terminals.specs.Scripts.{script_run};
+ghost use Rattle.hv_terminals.specs.Scripts.{begun_line, script_run};
 ghost use Rattle.hv_terminals.specs.Session.{HasSessionRoom, IsDuePresent, begins_at, gone_on, lines_opened, opened_at_start, session_at_start, with_task};
 ghost use Rattle.hv_terminals.specs.Task.{HasSteps};
 
@@ -116,6 +117,20 @@ impl Session {
             scripts: Scripts::new(boot, own),
             lines,
         })
+    }
+
+    /// The line that is begun and has steps left, if there is one.
+    pub fn line(&self) -> Option<&Line>
+        ensures { option_copied result ≡ self.now.session.line }
+    {
+        self.line.as_ref()
+    }
+
+    /// The text of the next command, if one is left.
+    pub fn next_line(&self) -> Option<&[u8]>
+        ensures { option_copied result ≡ begun_line (begun self.now.session) }
+    {
+        self.scripts.line()
     }
 
     /// How many lines all scripts have that were opened.

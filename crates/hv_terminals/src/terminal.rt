@@ -1,14 +1,15 @@
 //! A terminal's program.
 ghost use Rattle.std.specs.Prelude.{◌≡◌, ◌+◌, ◌<◌, ◌≤◌, ◌^◌, ◌↔◌, ◌++◌, [], None, IfOk, IfSome, IsTrue, OnOk, length};
+ghost use Rattle.std.specs.Option.{option_copied};
 ghost use Rattle.hv_text.specs.Lines.{script_lines};
 ghost use Rattle.hv_text.specs.declared.limits.TheConstants.{GUEST_REGIONS, MOST_LINES};
 ghost use Rattle.hv_handed.specs.Told.{IsTold};
 ghost use Rattle.hv_rules.specs.Carry.{Carry};
-ghost use Rattle.hv_model.specs.Session.{lines_run};
+ghost use Rattle.hv_model.specs.Session.{begun, lines_run};
 ghost use Rattle.hv_model.specs.Terminal.{IsAtBootEnd, IsAtEnd, owed_after, terminal_with};
 ghost use Rattle.hv_programs.specs.Line.{GivesSlot, IsGuest};
 ghost use Rattle.hv_programs.specs.declared.owed.TheConstants.{MOST_OWED};
-ghost use Rattle.hv_terminals.specs.Scripts.{script_run};
+ghost use Rattle.hv_terminals.specs.Scripts.{begun_line, script_run};
 ghost use Rattle.hv_terminals.specs.Session.{lines_opened};
 ghost use Rattle.hv_terminals.specs.Terminal.{HasRoom, IsDue, IsInSlot, at_start, begins_with, made_of, with_region};
 
@@ -20,7 +21,7 @@ use crate::session::Session;
 use crate::task::due_owed;
 use hv_answer::Reply;
 use hv_handed::Told;
-use hv_programs::{MOST_OWED, Owed};
+use hv_programs::{Line, MOST_OWED, Owed};
 use hv_step::Step;
 use hv_text::{Bytes, GUEST_REGIONS};
 use std::alloc::{AllocError, Global};
@@ -84,7 +85,29 @@ impl<'p> Terminal<'p> {
         self.session.make_room()
     }
 
-    fn owes_nothing(&self) -> bool
+    /// The plans of the host tree's guests.
+    pub fn plans(&self) -> &Plans
+        ensures { result.now ≡ self.now.terminal.plans }
+    {
+        self.plans
+    }
+
+    /// The line that is begun and has steps left, if there is one.
+    pub fn line(&self) -> Option<&Line>
+        ensures { option_copied result ≡ self.now.terminal.session.line }
+    {
+        self.session.line()
+    }
+
+    /// The text of the next command of its scripts, if one is left.
+    pub fn next_line(&self) -> Option<&[u8]>
+        ensures { option_copied result ≡ begun_line (begun self.now.terminal.session) }
+    {
+        self.session.next_line()
+    }
+
+    /// Whether it owes no interrupt step.
+    pub fn owes_nothing(&self) -> bool
         ensures { IsTrue result ↔ (self.now.terminal.owed ≡ []) }
     {
         match self.owed.next() {
