@@ -229,14 +229,16 @@ module _ (O : Origin) (s : State (machine O)) (by : ActorId) (are : AreEntries (
       (λ g. component.Shelf ∷ component.Space g.slot ∷ if_made r (changed_body g c.row c.target)) (λ why. reply.Add (Err why)) r c all (λ at. at)) [
         | inl admitted ↦
             let g = admitted.guest in
-            let got = add-shelf st r c c.plan (s (Component component.Shelf)).value admitted.agree.0 in
-            ( subst IsGiven (sym admitted.shows) (given-slot st.name st.stage c.row st.generation g admitted.is),
+            let got = add-shelf st r c c.plan (s (Component component.Shelf)).value admitted.agree.0 in (
+              subst IsGiven (sym admitted.shows) (given-slot st.name st.stage c.row st.generation g admitted.is),
               row-brought c.row c.parent (row_of plans st.name st.region) planned.0
-              (λ k is. (row-below plans st.name st.region k (good st.name) is, add-parent st r c g k got.0 got.1 is (planned.0 ∙ is) planned.1 admitted.agree.1.1)))
-        | inr refused ↦
-            ( subst IsGiven (sym refused.none) tt,
-              row-brought c.row c.parent (row_of plans st.name st.region) planned.0
-              (λ k is. (row-below plans st.name st.region k (good st.name) is, no-parent k c.parent (ap (λ (x : Carry). x.parent) refused.carry))))
+                  (λ k is. (row-below plans st.name st.region k (good st.name) is, add-parent st r c g k got.0 got.1 is (planned.0 ∙ is) planned.1 admitted.agree.1.1)),
+            )
+        | inr refused ↦ (
+          subst IsGiven (sym refused.none) tt,
+          row-brought c.row c.parent (row_of plans st.name st.region) planned.0
+              (λ k is. (row-below plans st.name st.region k (good st.name) is, no-parent k c.parent (ap (λ (x : Carry). x.parent) refused.carry))),
+        )
       ]
 
   -- a removal
@@ -280,18 +282,20 @@ module _ (O : Origin) (s : State (machine O)) (by : ActorId) (are : AreEntries (
       (λ g. component.Shelf ∷ component.Space g.slot ∷ if_made r (changed_body g c.row c.target)) (λ why. reply.Drop (Err why)) r c all (λ at. at)) [
         | inl admitted ↦
             let g = admitted.guest in
-            let slot = given-slot st.name st.stage c.row st.generation g admitted.is in
-            ( subst IsGiven (sym admitted.shows) slot,
+            let slot = given-slot st.name st.stage c.row st.generation g admitted.is in (
+              subst IsGiven (sym admitted.shows) slot,
               row-brought c.row c.parent (row_of plans st.name st.region) planned
-              (λ k is.
-              let below = row-below plans st.name st.region k (good st.name) is in
-              let windows = (s (Component (component.Space g.slot))).value.windows in
-              let space = subst (λ (o : Option ℕ). IsSomeAnd o (λ row. AgreesToDrop (find (is_of row) windows) r c.target)) (planned ∙ is) admitted.agree.1.0 in
-              (below, drop-parent st r c g k (find (is_of k) windows) space admitted.agree.0 (planned ∙ is) slot below admitted.agree.1.1)))
-        | inr refused ↦
-            ( subst IsGiven (sym refused.none) tt,
-              row-brought c.row c.parent (row_of plans st.name st.region) planned
-              (λ k is. (row-below plans st.name st.region k (good st.name) is, no-parent k c.parent (ap (λ (x : Carry). x.parent) refused.carry))))
+                  (λ k is.
+                  let below = row-below plans st.name st.region k (good st.name) is in
+                  let windows = (s (Component (component.Space g.slot))).value.windows in
+                  let space = subst (λ (o : Option ℕ). IsSomeAnd o (λ row. AgreesToDrop (find (is_of row) windows) r c.target)) (planned ∙ is) admitted.agree.1.0 in
+                  (below, drop-parent st r c g k (find (is_of k) windows) space admitted.agree.0 (planned ∙ is) slot below admitted.agree.1.1)),
+            )
+        | inr refused ↦ (
+          subst IsGiven (sym refused.none) tt,
+          row-brought c.row c.parent (row_of plans st.name st.region) planned
+              (λ k is. (row-below plans st.name st.region k (good st.name) is, no-parent k c.parent (ap (λ (x : Carry). x.parent) refused.carry))),
+        )
       ]
 
   -- a reset and a feed of a device
@@ -306,18 +310,20 @@ module _ (O : Origin) (s : State (machine O)) (by : ActorId) (are : AreEntries (
       elim (past (Agrees O s by st r c) (with_region c.row (guest_in (s (Component component.Dir)).value name Made)) shown (λ g. row_body g c.row) refused r c all admits) [
         | inl admitted ↦
             let g = admitted.guest in
-            let slot = given-slot name Made c.row shown g admitted.is in
-            ( subst IsGiven (sym admitted.shows) slot,
+            let slot = given-slot name Made c.row shown g admitted.is in (
+              subst IsGiven (sym admitted.shows) slot,
               row-brought c.row c.parent (row_of plans name region) planned
-              (λ k is.
-              let below = row-below plans name region k (good name) is in
-              let here = subst (λ (o : Option ℕ). AllByRecursion (Agrees O s by st r c) (row_body g o)) (planned ∙ is) admitted.agree in
-              let body = (s (Component (component.Body g.slot k))).value in
-              (below, subst (IsParent k) (sym (parent g.slot k here.0)) (live-parent g k body slot below refl))))
-        | inr refused ↦
-            ( subst IsGiven (sym refused.none) tt,
-              row-brought c.row c.parent (row_of plans name region) planned
-              (λ k is. (row-below plans name region k (good name) is, no-parent k c.parent (ap (λ (x : Carry). x.parent) refused.carry))))
+                  (λ k is.
+                  let below = row-below plans name region k (good name) is in
+                  let here = subst (λ (o : Option ℕ). AllByRecursion (Agrees O s by st r c) (row_body g o)) (planned ∙ is) admitted.agree in
+                  let body = (s (Component (component.Body g.slot k))).value in
+                  (below, subst (IsParent k) (sym (parent g.slot k here.0)) (live-parent g k body slot below refl))),
+            )
+        | inr refused ↦ (
+          subst IsGiven (sym refused.none) tt,
+          row-brought c.row c.parent (row_of plans name region) planned
+              (λ k is. (row-below plans name region k (good name) is, no-parent k c.parent (ap (λ (x : Carry). x.parent) refused.carry))),
+        )
       ]
 
   -- what a step brings

@@ -3,4 +3,4 @@
 
 mod laws;
 
-pub use laws::{memory_shown_ends_within, steps_bring_regions_of_the_board, steps_are_replied_to};
+pub use laws::{memory_shown_ends_within, steps_are_replied_to, steps_bring_regions_of_the_board};
