@@ -1,0 +1,4 @@
+-- What terminals have shown.
+pub mod Telling
+pub mod Kept
+pub mod Told
