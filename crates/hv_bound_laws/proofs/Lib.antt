@@ -1,0 +1,10 @@
+pub mod Plans
+pub mod Trees
+pub mod Bodies
+pub mod Spaces
+pub mod Areas
+pub mod Asked
+pub mod Steps
+pub mod Harts
+pub mod Legal
+pub mod Boards
