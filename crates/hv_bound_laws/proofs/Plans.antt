@@ -1,7 +1,8 @@
 -- The plans of good guests, and the regions in their rows.
 use Rattle.std.proofs.Common.{◌≡◌, ℕ, zero, suc, ◌+◌, ◌<◌, ◌≤◌, refl, sym, ap, subst, ◌∙◌, List, [], ◌∷◌, length, arith, Option, None, Some, Ok, Err, option_map, slice_get, replicate}
 use Rattle.std.proofs.lemmas.List.{length-replicate}
-use Rattle.std.specs.List.{AllByRecursion}
+use Rattle.std.specs.List.{All, AllByRecursion}
+use Rattle.std.proofs.lemmas.List.Elements.{All-nil}
 use Rattle.std.specs.Option.{option_map_or}
 use Rattle.std.proofs.lemmas.Option.{get_or_from_slice_get, same_Some, slice_get_within}
 use Rattle.hv_body.specs.Rules.{FitsArea}
@@ -13,12 +14,13 @@ use Rattle.hv_model.specs.Plans.{Planned, good, is_named, plan_of, planned, regi
 use Rattle.hv_model.specs.Plans as model
 use Rattle.hv_plan.specs.Rules.{HasBytes, IsAreaSize, KeepsRules, LiesInArea}
 use Rattle.hv_programs.specs.Owed.{IsParent}
-use Rattle.hv_region.specs.Plans.{IsRegionPlan}
+use Rattle.hv_region.specs.Plans.{IsRegionPlan, IsVcpuPlan}
 use Rattle.hv_region.specs.declared.fault.Fault.{Fault}
 use Rattle.hv_region.specs.declared.plan.Form.{Form}
 use Rattle.hv_region.specs.declared.plan.Form.TheVariants.{Ram, Rom, Device, Real, Alias}
 use Rattle.hv_region.specs.declared.plan.GuestPlan.{GuestPlan}
 use Rattle.hv_region.specs.declared.plan.RegionPlan.{RegionPlan}
+use Rattle.hv_terminals.specs.Plans.{AreSized, IsSized}
 use Rattle.hv_terminals.specs.Terminal.{HasGoodRegions, HaveOtherParents}
 use Rattle.hv_text.specs.declared.limits.TheConstants.{GUEST_REGIONS, MOST_MEMORY}
 use Rattle.hv_order_laws.specs.Orders.{ArePlansGood}
@@ -180,8 +182,23 @@ module _ (harts : ℕ) (areas : List (List ℕ × ℕ)) (plans : List Planned) (
   regions-good None each = record { few = omega arith; parents = tt }
   regions-good (Some plan) each = let it = each plan refl in record { few = it.rules.few_regions; parents = it.parents }
 
+  -- the plans keep the rules
+  vcpus-good : (found : Option GuestPlan) → ((plan : GuestPlan) → found ≡ Some plan → IsPlanGood areas plan) → All IsVcpuPlan (vcpus_in found)
+  vcpus-good None each = All-nil IsVcpuPlan
+  vcpus-good (Some plan) each = (each plan refl).rules.vcpus
+
+  sized : AreSized plans
+  sized =
+      rules-each areas IsSized
+      (λ plan keeps. record { some_vcpus = keeps.some_vcpus; few_vcpus = keeps.few_vcpus; few_regions = keeps.few_regions })
+      (λ fault. tt) plans all.guests
+
   pub can : RegionsCanBe plans
-  can = record { can_be = can-be; good = λ name. regions-good (plan_of plans name) (plan-good name) }
+  can = record {
+    can_be = can-be;
+    good = λ name. regions-good (plan_of plans name) (plan-good name);
+    rules = record { sized = sized; vcpus = λ name. vcpus-good (plan_of plans name) (plan-good name) };
+  }
 
 pub good-regions : GoodRegionsCanBe
 good-regions harts areas plans all = can harts areas plans all
