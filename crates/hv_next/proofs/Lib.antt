@@ -1,6 +1,7 @@
 mod Sources
 mod Told
 pub mod Guests
+mod Loads
 pub mod Unique
 mod Scripts
 pub mod Boots

@@ -1,8 +1,10 @@
-pub mod Stack
-pub mod Cells
-pub mod Answer
-pub mod Step
-pub mod Board
+-- Runs of a board's terminals in rounds.
+pub mod Running
+pub mod Turns
+pub mod Goes
+pub mod Good
+pub mod Starting
+pub mod Sound
 pub mod Phase
 pub mod Outcome
 pub mod Close

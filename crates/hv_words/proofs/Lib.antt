@@ -2,7 +2,8 @@ pub mod WordLemmas
 pub mod ScriptLemmas
 pub mod ArgumentLemmas
 pub mod TextLemmas
-pub mod Unambiguous
+pub mod Contents
 pub mod PrintLemmas
 pub mod FoundLemmas
-pub mod SaidLemmas
+pub mod TableLemmas
+pub mod RowLemmas

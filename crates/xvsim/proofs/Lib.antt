@@ -1,4 +1,5 @@
 pub mod Counts
+pub mod Good
 pub mod Told
 pub mod Texts
 pub mod Named

@@ -1,0 +1,5 @@
+-- Lemmas of a terminal's event.
+pub mod Commands
+pub mod Asks
+pub mod Wanted
+pub mod Keeping
