@@ -1,9 +1,9 @@
 -- Legal and complete histories.
 use Rattle.std.specs.Option.{option_map, option_map_or}
-use Rattle.std.specs.Prelude.{◌≡◌, ℕ, zero, suc, None, replicate, slice_get, ◌+◌, ◌<◌, ◌≤◌, length, List, [], ◌++◌, map, ◌==◌, if◌then◌else◌, ◌∷◌}
+use Rattle.std.specs.Prelude.{◌≡◌, ℕ, zero, suc, None, replicate, slice_get, ◌+◌, ◌<◌, ◌≤◌, max, length, List, [], ◌++◌, map, ◌==◌, if◌then◌else◌, ◌∷◌}
 use Rattle.std.specs.List.{AllByRecursion, range_with_len}
 use Rattle.hv_text.specs.declared.limits.TheConstants.{GREATEST_STAMP}
-use Rattle.hv_machine.specs.Machine.{State, greatest, state_after}
+use Rattle.hv_machine.specs.Machine.{State, state_after}
 use Rattle.hv_machine.specs.Merging.{IsRising}
 use Rattle.hv_machine.specs.Phases.{together, IsTwoPart}
 use Rattle.hv_event.specs.declared.event.CellId.TheVariants as component
@@ -23,7 +23,7 @@ use Rattle.hv_model.specs.Files.{FileMap, load_files}
 use Rattle.hv_model.specs.Hart.{hart_at_start, HasMade}
 use Rattle.hv_model.specs.Session.{Scripts, Session}
 use Rattle.hv_model.specs.Terminal.{TerminalState, IsAtBootEnd, IsAtEnd}
-use Rattle.hv_model.specs.Rules.{IsAllowedAt, Value, footprint_of, machine}
+use Rattle.hv_model.specs.Rules.{Value, machine}
 
 -- Terminal 0 begins with the boot script, the others with none.
 abbrev pub boot_at_start : Origin → ℕ → Scripts
@@ -136,12 +136,12 @@ module _ (O : Origin) where
   abbrev pub Complete : List Event → Type 0
   Complete H = (s : State (machine O)) × Leads H s × IsComplete s
 
-  -- A step is due that finds the greatest stamp: an actor agrees to an entry of its own, and of the stamps of all that the
-  -- entry touches the greatest is the last one.
+  -- A step is due that finds the greatest stamp: a terminal isn't at its end, and it or the files have that stamp.
   pub record IsSpent (s : State (machine O)) : Type 0 where
-    pub next : Entry
-    pub agrees : IsAllowedAt (Actor next.event.actor) (s (Actor next.event.actor)).value next
-    pub found : greatest (map (λ x. (s x).stamp) (footprint_of O.opening.harts next)) ≡ GREATEST_STAMP
+    pub terminal : ℕ
+    pub is_one : terminal < 4
+    pub due : IsAtEnd (s (Actor (Terminal terminal))).value → ⊥
+    pub found : max (s (Actor (Terminal terminal))).stamp (s (Component component.Files)).stamp ≡ GREATEST_STAMP
 
   -- A run that was stopped: its history leads to a state that has these files and devices on its shelf, and in which a step
   -- finds the greatest stamp.

@@ -49,7 +49,7 @@ admits-shown (Ok g) shown refused r c h = h
 admits-shown (Err why) shown refused r c h = h.0
 
 -- a region that the plan hasn't is refused
-pub not-shown : (g : Generation) (res : Result Generation Refusal) → Some g ≡ result_ok (with_region None res) → ⊥
+not-shown : (g : Generation) (res : Result Generation Refusal) → Some g ≡ result_ok (with_region None res) → ⊥
 not-shown g (Ok found) h = cc h
 not-shown g (Err why) h = cc h
 

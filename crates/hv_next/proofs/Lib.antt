@@ -1,7 +1,6 @@
 mod Sources
 mod Told
 pub mod Guests
-mod Loads
 pub mod Unique
 mod Scripts
 pub mod Boots

@@ -9,20 +9,12 @@ use Rattle.hv_rules.specs.Carry.{Carry}
 use Rattle.hv_rules.specs.Line.{Ask, rest, look, claim, turn, add, drop, add_vcpu, drop_vcpu, change, reset_device, kick, resume, pause, halt, reset, LineState, guest_name, left, first, step_of, step_for, next_step}
 use Rattle.hv_step.specs.declared.step.Step.{Step}
 use Rattle.hv_step.specs.declared.step.Step.TheVariants as step
-use Rattle.hv_words.specs.declared.change.Change as words
-use Rattle.hv_words.specs.declared.change.Change.TheVariants as changes
 use Rattle.hv_words.specs.declared.command.Command.{Command}
 use Rattle.hv_words.specs.declared.command.Command.TheVariants as command
-use Rattle.hv_words.specs.declared.guest_command.GuestCommand.{GuestCommand}
-use Rattle.hv_words.specs.declared.guest_command.GuestCommand.TheVariants as guests
 use Rattle.hv_words.specs.declared.refusal.WordsRefusal.{WordsRefusal}
-use Rattle.hv_words.specs.declared.serial_command.SerialCommand.{SerialCommand}
-use Rattle.hv_words.specs.declared.serial_command.SerialCommand.TheVariants as serial
-use Rattle.hv_words.specs.declared.vcpu_command.VcpuCommand.{VcpuCommand}
-use Rattle.hv_words.specs.declared.vcpu_command.VcpuCommand.TheVariants as vcpus
 use Rattle.hv_words.specs.Said.{said}
 use Rattle.hv_kinds.specs.declared.generation.Generation.{Generation}
-use Rattle.hv_model.specs.Work.{Work, guest_work, once, serial_work, several, vcpu_step, vcpu_work, work_of}
+use Rattle.hv_model.specs.Work.{Work, once, several, work_of}
 use Rattle.hv_model.specs.Plans.{Planned, planned, refusal_for, vcpus_of, row_of, region_of}
 use Rattle.hv_model.specs.Session.{Session, Begun, begun, Task, makes, goes, tells, Present, task_for, task_of, first_of, present_with, present}
 use Rattle.hv_model.specs.Shown.{shown_in, showing}
@@ -50,17 +42,11 @@ Told plans p lines (step.Mkdir x) r c = Unit {0}
 Told plans p lines (step.Rm x) r c = Unit {0}
 Told plans p lines (step.Write x) r c = Unit {0}
 Told plans p lines (step.Asm x) r c = Unit {0}
-Told plans p lines (step.Guests x) r c = Unit {0}
 Told plans p lines (step.Name x) r c = c.stopped ≡ refusal_for (planned plans x.name)
 Told plans p lines (step.Stage x) r c = Unit {0}
 Told plans p lines (step.Add x) r c = (c.row ≡ row_of plans x.name x.region) × (c.plan ≡ region_of plans x.name x.region)
 Told plans p lines (step.Drop x) r c = c.row ≡ row_of plans x.name x.region
-Told plans p lines (step.Regions x) r c = Unit {0}
-Told plans p lines (step.Load x) r c = Unit {0}
-Told plans p lines (step.Mem x) r c = Unit {0}
 Told plans p lines (step.Devreset x) r c = c.row ≡ row_of plans x.name x.region
-Told plans p lines (step.Feed x) r c = c.row ≡ row_of plans x.name x.region
-Told plans p lines (step.Output x) r c = c.row ≡ row_of plans x.name x.region
 Told plans p lines (step.Vadd x) r c = c.vcpu ≡ vcpu_given (vcpus_at plans p.task) x.vcpu
 Told plans p lines (step.Vdrop x) r c = Unit {0}
 Told plans p lines (step.Kick x) r c = Unit {0}
@@ -81,48 +67,11 @@ is_asked (step.Mkdir x) = true
 is_asked (step.Rm x) = true
 is_asked (step.Write x) = true
 is_asked (step.Asm x) = true
-is_asked (step.Guests x) = true
-is_asked (step.Add x) = true
-is_asked (step.Drop x) = true
-is_asked (step.Regions x) = true
-is_asked (step.Load x) = true
-is_asked (step.Mem x) = true
-is_asked (step.Feed x) = true
-is_asked (step.Output x) = true
-is_asked (step.Kick x) = true
-is_asked (step.Resume x) = true
-is_asked (step.Pause x) = true
-is_asked (step.Halt x) = true
-is_asked (step.Reset x) = true
-is_asked (step.Look x) = true
 is_asked st = false
 
 abbrev IsWork : Work → Type 0
 IsWork (once asked) = is_asked asked ≡ true
 IsWork (several asked) = Unit {0}
-
-vcpu-asked : (c : words.Change) (number : ℕ) → is_asked (vcpu_step c number) ≡ true
-vcpu-asked changes.Kick number = refl
-vcpu-asked _ number = refl
-
-guest-asked : (c : GuestCommand) → IsWork (guest_work c)
-guest-asked guests.List = refl
-guest-asked (guests.Create name) = tt
-guest-asked (guests.Destroy name) = tt
-guest-asked (guests.Change asked name) = tt
-guest-asked (guests.RegionAdd name region) = refl
-guest-asked (guests.RegionDel name region) = refl
-guest-asked (guests.Regions name) = refl
-guest-asked (guests.Mem name address count) = refl
-
-vcpus-asked : (c : VcpuCommand) → IsWork (vcpu_work c)
-vcpus-asked vcpus.List = tt
-vcpus-asked (vcpus.Change asked number) = vcpu-asked asked number
-vcpus-asked (vcpus.Dump number) = refl
-
-serial-asked : (c : SerialCommand) → IsWork (serial_work c)
-serial-asked (serial.Send name region text) = refl
-serial-asked (serial.Dump name region) = refl
 
 work-asked : (c : Command) → IsWork (work_of c)
 work-asked (command.VfsLs path) = refl
@@ -134,22 +83,18 @@ work-asked (command.VfsWrite path text) = refl
 work-asked (command.VfsAsm source target) = refl
 work-asked (command.VfsRun path) = refl
 work-asked (command.TermRest count) = tt
-work-asked (command.VfsGuestLoad name path address) = refl
-work-asked (command.Guest c) = guest-asked c
-work-asked (command.Vcpu c) = vcpus-asked c
-work-asked (command.Serial c) = serial-asked c
 
--- showing a generation they are still such steps
-shown-asked : (given : Option Generation) (asked : Step) → is_asked (showing given asked) ≡ is_asked asked
-shown-asked given (step.Add x) = refl
-shown-asked given (step.Drop x) = refl
-shown-asked given (step.Regions x) = refl
-shown-asked given (step.Load x) = refl
-shown-asked given (step.Mem x) = refl
-shown-asked given (step.Devreset x) = refl
-shown-asked given (step.Feed x) = refl
-shown-asked given (step.Output x) = refl
-shown-asked given _ = refl
+-- none of them shows a generation
+shows-none : (asked : Step) (given : Option Generation) → is_asked asked ≡ true → showing given asked ≡ asked
+shows-none (step.Ls x) given h = refl
+shows-none (step.Cat x) given h = refl
+shows-none (step.Dts x) given h = refl
+shows-none (step.Run x) given h = refl
+shows-none (step.Mkdir x) given h = refl
+shows-none (step.Rm x) given h = refl
+shows-none (step.Write x) given h = refl
+shows-none (step.Asm x) given h = refl
+shows-none st given h = absurd (false≢true h)
 
 told-asked : (plans : List Planned) (p : Present) (lines : ℕ) (st : Step) (r : Reply) (c : Carry) → is_asked st ≡ true → Asks plans p lines st r c → Told plans p lines st r c
 told-asked plans p lines (step.Ls x) r c asked h = tt
@@ -160,20 +105,6 @@ told-asked plans p lines (step.Mkdir x) r c asked h = tt
 told-asked plans p lines (step.Rm x) r c asked h = tt
 told-asked plans p lines (step.Write x) r c asked h = tt
 told-asked plans p lines (step.Asm x) r c asked h = tt
-told-asked plans p lines (step.Guests x) r c asked h = tt
-told-asked plans p lines (step.Add x) r c asked h = h
-told-asked plans p lines (step.Drop x) r c asked h = h
-told-asked plans p lines (step.Regions x) r c asked h = tt
-told-asked plans p lines (step.Load x) r c asked h = tt
-told-asked plans p lines (step.Mem x) r c asked h = tt
-told-asked plans p lines (step.Feed x) r c asked h = h
-told-asked plans p lines (step.Output x) r c asked h = h
-told-asked plans p lines (step.Kick x) r c asked h = tt
-told-asked plans p lines (step.Resume x) r c asked h = tt
-told-asked plans p lines (step.Pause x) r c asked h = tt
-told-asked plans p lines (step.Halt x) r c asked h = tt
-told-asked plans p lines (step.Reset x) r c asked h = tt
-told-asked plans p lines (step.Look x) r c asked h = tt
 told-asked plans p lines st r c asked h = absurd (false≢true asked)
 
 -- the steps that lines of several have
@@ -251,7 +182,8 @@ IsTask (tells line why) = Unit {0}
 
 told-task : (plans : List Planned) (p : Present) (lines : ℕ) (task : Task) (st : Step) (r : Reply) (c : Carry) → p.task ≡ task → IsTask task → FitsTask plans p lines task st r c → Told plans p lines st r c
 told-task plans p lines (makes asked) st r c is work h =
-    told-asked plans p lines st r c (ap is_asked h.0 ∙ shown-asked (shown_in st) asked ∙ work) h.1
+    let same : st ≡ asked = h.0 ∙ shows-none asked (shown_in st) work in
+    told-asked plans p lines st r c (ap is_asked same ∙ work) h.1
 told-task plans p lines (goes l) st r c is work h =
     let a = line-ask l (shown_in st) st h.0 in
     told-lines plans p l lines st r c is (ap is_lines a.is ∙ ask-lines l (shown_in st) a.ask) h.1
@@ -300,13 +232,8 @@ says t [] st r c h = says-with t.plans (present t.plans t.session) t.session.lin
 abbrev pub Same : (Step → Option Generation) → Step → Step → Type 0
 Same given st su = (shown_in st ≡ given st) × (shown_in su ≡ given su)
 
--- two steps of a line, or of a command, are one where what the directory gives doesn't depend on what is shown
-module _ (given : Step → Option Generation) (blind : (l : LineState) (one other : Option Generation) (a : Ask) → given (step_of l one a) ≡ given (step_of l other a)) (blind_once : (one other : Option Generation) (asked : Step) → given (showing one asked) ≡ given (showing other asked)) where
-  command-once : (asked st su : Step) → Same given st su → st ≡ showing (shown_in st) asked → su ≡ showing (shown_in su) asked → st ≡ su
-  command-once asked st su shown a b =
-      let shows : shown_in st ≡ shown_in su = shown.0 ∙ ap given a ∙ blind_once (shown_in st) (shown_in su) asked ∙ sym (ap given b) ∙ sym shown.1 in
-      a ∙ ap (λ (g : Option Generation). showing g asked) shows ∙ sym b
-
+-- two steps of a line are one where what the directory gives doesn't depend on what is shown
+module _ (given : Step → Option Generation) (blind : (l : LineState) (one other : Option Generation) (a : Ask) → given (step_of l one a) ≡ given (step_of l other a)) where
   line-once : (l : LineState) (st su : Step) → Same given st su → (a : IsOfAsk l (shown_in st) st) (b : IsOfAsk l (shown_in su) su) → st ≡ su
   line-once l st su shown a b =
       let asks : a.ask ≡ b.ask = same-some a.ask b.ask (sym a.next ∙ b.next) in
@@ -317,7 +244,8 @@ module _ (given : Step → Option Generation) (blind : (l : LineState) (one othe
 
   task-once : (plans : List Planned) (p : Present) (lines : ℕ) (task : Task) (st su : Step) (r q : Reply) (c d : Carry) → IsTask task → Same given st su
       → FitsTask plans p lines task st r c → FitsTask plans p lines task su q d → st ≡ su
-  task-once plans p lines (makes asked) st su r q c d work shown h k = command-once asked st su shown h.0 k.0
+  task-once plans p lines (makes asked) st su r q c d work shown h k =
+      h.0 ∙ shows-none asked (shown_in st) work ∙ sym (k.0 ∙ shows-none asked (shown_in su) work)
   task-once plans p lines (goes l) st su r q c d work shown h k = line-once l st su shown (line-ask l (shown_in st) st h.0) (line-ask l (shown_in su) su k.0)
   task-once plans p lines (tells text why) st su r q c d work shown h k = h.0 ∙ sym k.0
 

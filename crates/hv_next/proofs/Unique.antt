@@ -22,9 +22,7 @@ use Rattle.hv_step.specs.declared.step.Add.{Add}
 use Rattle.hv_step.specs.declared.step.Bad.{Bad}
 use Rattle.hv_step.specs.declared.step.Devreset.{Devreset}
 use Rattle.hv_step.specs.declared.step.Drop.{Drop}
-use Rattle.hv_step.specs.declared.step.Feed.{Feed}
 use Rattle.hv_step.specs.declared.step.Name.{Name}
-use Rattle.hv_step.specs.declared.step.Output.{Output}
 use Rattle.hv_step.specs.declared.step.Rest.{Rest}
 use Rattle.hv_step.specs.declared.step.Run.{Run}
 use Rattle.hv_step.specs.declared.step.Vadd.{Vadd}
@@ -45,11 +43,10 @@ use Rattle.hv_model.specs.declared.entry.Entry.{Entry}
 use Rattle.hv_model.specs.Files.{FileMap, refusal_of, read_file, FindsScript, FilesAgree}
 use Rattle.hv_model.specs.Plans.{Planned, planned, refusal_for, row_of, region_of}
 use Rattle.hv_model.specs.Session.{Present, present, scripts_of}
-use Rattle.hv_model.specs.Shown.{shown_in, shown_by, showing}
+use Rattle.hv_model.specs.Shown.{shown_in, shown_by}
 use Rattle.hv_model.specs.Terminal.{TerminalState, LengthAnswers, RunAnswers, IsNextStep, is_interrupt, vcpu_given}
 use Rattle.hv_model.specs.Rules.{machine, components_of, footprint_of, IsAllowedAt}
 use Rattle.hv_next.proofs.Guests.{both, admits-shown, dir-agrees, added, removed, on_row, readied, with_plan, Agreed, At, reset-once, add-once, drop-once, kick-once, resume-once, pause-once, halt-once, vreset-once, vdrop-once, vadd-once, pinned-once, sampled-once}
-use Rattle.hv_next.proofs.Loads.{feed-once, list-once, load-once, mem-once, output-once}
 use Rattle.hv_next.proofs.Sources.{source-once, assembly-once}
 use Rattle.hv_next.proofs.Told.{Says, says, next-step, vcpus_at, bad_reply}
 
@@ -125,11 +122,6 @@ abbrev given_by : DirState → List Planned → Step → Option Generation
 given_by d plans (step.Add x) = result_ok (with_region (row_of plans x.name x.region) (guest_in d x.name x.stage))
 given_by d plans (step.Drop x) = result_ok (with_region (row_of plans x.name x.region) (guest_in d x.name x.stage))
 given_by d plans (step.Devreset x) = result_ok (with_region (row_of plans x.name x.region) (guest_in d x.name Made))
-given_by d plans (step.Feed x) = result_ok (with_region (row_of plans x.name x.region) (guest_in d x.name Made))
-given_by d plans (step.Output x) = result_ok (with_region (row_of plans x.name x.region) (guest_in d x.name Made))
-given_by d plans (step.Regions x) = result_ok (guest_in d x.name Made)
-given_by d plans (step.Load x) = result_ok (guest_in d x.name Made)
-given_by d plans (step.Mem x) = result_ok (guest_in d x.name Made)
 given_by d plans (step.Kick x) = by_guest d x.guest
 given_by d plans (step.Resume x) = by_guest d x.guest
 given_by d plans (step.Pause x) = by_guest d x.guest
@@ -152,17 +144,6 @@ blind d plans l one other (change pause index) = refl
 blind d plans l one other (change halt index) = refl
 blind d plans l one other (change reset index) = refl
 blind d plans l one other (reset_device row) = refl
-
-blind_once : (d : DirState) (plans : List Planned) (one other : Option Generation) (asked : Step) → given_by d plans (showing one asked) ≡ given_by d plans (showing other asked)
-blind_once d plans one other (step.Add x) = refl
-blind_once d plans one other (step.Drop x) = refl
-blind_once d plans one other (step.Regions x) = refl
-blind_once d plans one other (step.Load x) = refl
-blind_once d plans one other (step.Mem x) = refl
-blind_once d plans one other (step.Devreset x) = refl
-blind_once d plans one other (step.Feed x) = refl
-blind_once d plans one other (step.Output x) = refl
-blind_once d plans one other _ = refl
 
 -- the reply to a line that is no command, and the VCPUs of the guest that a line names
 abbrev bad_at : Option Present → Reply
@@ -207,14 +188,6 @@ reset-told : (plans : List Planned) (p : Option Present) (lines : ℕ) (x : Devr
 reset-told plans None lines x r c h = absurd h
 reset-told plans (Some p) lines x r c h = h
 
-feed-told : (plans : List Planned) (p : Option Present) (lines : ℕ) (x : Feed) (r : Reply) (c : Carry) → OnSession plans p lines (step.Feed x) r c → c.row ≡ row_of plans x.name x.region
-feed-told plans None lines x r c h = absurd h
-feed-told plans (Some p) lines x r c h = h
-
-output-told : (plans : List Planned) (p : Option Present) (lines : ℕ) (x : Output) (r : Reply) (c : Carry) → OnSession plans p lines (step.Output x) r c → c.row ≡ row_of plans x.name x.region
-output-told plans None lines x r c h = absurd h
-output-told plans (Some p) lines x r c h = h
-
 vadd-told : (plans : List Planned) (p : Option Present) (lines : ℕ) (x : Vadd) (r : Reply) (c : Carry) → OnSession plans p lines (step.Vadd x) r c
     → c.vcpu ≡ vcpu_given (plans_at plans p) x.vcpu
 vadd-told plans None lines x r c h = absurd h
@@ -222,6 +195,12 @@ vadd-told plans (Some p) lines x r c h = h
 
 -- the steps that a session makes
 abbrev is_made : Step → Bool
+is_made (step.Guests x) = false
+is_made (step.Regions x) = false
+is_made (step.Load x) = false
+is_made (step.Mem x) = false
+is_made (step.Feed x) = false
+is_made (step.Output x) = false
 is_made (step.Tick x) = false
 is_made (step.Idle x) = false
 is_made (step.Dispatch x) = false
@@ -237,6 +216,12 @@ is_made (step.Pin x) = false
 is_made st = true
 
 none-of : (plans : List Planned) (p : Present) (lines : ℕ) (st : Step) (r : Reply) (c : Carry) → is_made st ≡ false → OnSession plans (Some p) lines st r c → ⊥
+none-of plans p lines (step.Guests x) r c isnt h = h
+none-of plans p lines (step.Regions x) r c isnt h = h
+none-of plans p lines (step.Load x) r c isnt h = h
+none-of plans p lines (step.Mem x) r c isnt h = h
+none-of plans p lines (step.Feed x) r c isnt h = h
+none-of plans p lines (step.Output x) r c isnt h = h
 none-of plans p lines (step.Tick x) r c isnt h = h
 none-of plans p lines (step.Idle x) r c isnt h = h
 none-of plans p lines (step.Dispatch x) r c isnt h = h
@@ -311,11 +296,6 @@ module _ (O : Origin) (s : State (machine O)) (t : ℕ) where
       admits-shown (with_region c.row (guest_in dir name stage)) gen refused r c (admits (dir-agrees (At O s t st r c) gen later h))
       ∙ ap (λ (k : Option ℕ). result_ok (with_region k (guest_in dir name stage))) is
 
-  name-shown : (gen : Option Generation) (later : Generation → List CellId) (refused : Refusal → Reply) (name : List ℕ) (st : Step) (r : Reply) (c : Carry)
-      → (At O s t st r c (Component component.Dir) → Admits (guest_in dir name Made) gen refused r c)
-      → AllByRecursion (At O s t st r c) (map Component (past_dir gen later)) → gen ≡ result_ok (guest_in dir name Made)
-  name-shown gen later refused name st r c admits h = admits-shown (guest_in dir name Made) gen refused r c (admits (dir-agrees (At O s t st r c) gen later h))
-
   guest-shown : (guest : Option ByGuest) (later : List CellId) (refused : Refusal → Reply) (st : Step) (r : Reply) (c : Carry)
       → (At O s t st r c (Component component.Dir) → AdmitsBy dir guest refused r c)
       → AllByRecursion (At O s t st r c) (map Component (past_dir_if guest later)) → shown_by guest ≡ by_guest dir guest
@@ -338,15 +318,11 @@ module _ (O : Origin) (s : State (machine O)) (t : ℕ) where
   shown-is i n (step.Pause x) r c m = guest-shown x.guest _ (λ why. reply.Pause (Err why)) (step.Pause x) r c (λ h. h) (agreed i n (step.Pause x) r c m)
   shown-is i n (step.Halt x) r c m = guest-shown x.guest _ (λ why. reply.Halt (Err why)) (step.Halt x) r c (λ h. h) (agreed i n (step.Halt x) r c m)
   shown-is i n (step.Reset x) r c m = guest-shown x.guest _ (λ why. reply.Reset (Err why)) (step.Reset x) r c (λ h. h) (agreed i n (step.Reset x) r c m)
-  shown-is i n (step.Regions x) r c m = name-shown x.generation _ (λ why. reply.Regions (Err why)) x.name (step.Regions x) r c (λ h. h) (agreed i n (step.Regions x) r c m)
-  shown-is i n (step.Load x) r c m = name-shown x.generation _ (λ why. reply.Load (Err why)) x.name (step.Load x) r c (λ h. h) (agreed i n (step.Load x) r c m)
-  shown-is i n (step.Mem x) r c m = name-shown x.generation _ (λ why. reply.Mem (Err why)) x.name (step.Mem x) r c (λ h. h) (agreed i n (step.Mem x) r c m)
-  shown-is i n (step.Feed x) r c m =
-      row-shown x.generation _ (λ why. reply.Feed (Err why)) x.name Made _ (step.Feed x) r c (λ h. h)
-      (feed-told terminal.plans here terminal.session.lines x r c (session-told i n (step.Feed x) r c refl m)) (agreed i n (step.Feed x) r c m)
-  shown-is i n (step.Output x) r c m =
-      row-shown x.generation _ (λ why. reply.Output (Err why)) x.name Made _ (step.Output x) r c (λ h. h)
-      (output-told terminal.plans here terminal.session.lines x r c (session-told i n (step.Output x) r c refl m)) (agreed i n (step.Output x) r c m)
+  shown-is i n (step.Regions x) r c m = absurd (none-told terminal.plans here terminal.session.lines (step.Regions x) r c refl (session-told i n (step.Regions x) r c refl m))
+  shown-is i n (step.Load x) r c m = absurd (none-told terminal.plans here terminal.session.lines (step.Load x) r c refl (session-told i n (step.Load x) r c refl m))
+  shown-is i n (step.Mem x) r c m = absurd (none-told terminal.plans here terminal.session.lines (step.Mem x) r c refl (session-told i n (step.Mem x) r c refl m))
+  shown-is i n (step.Feed x) r c m = absurd (none-told terminal.plans here terminal.session.lines (step.Feed x) r c refl (session-told i n (step.Feed x) r c refl m))
+  shown-is i n (step.Output x) r c m = absurd (none-told terminal.plans here terminal.session.lines (step.Output x) r c refl (session-told i n (step.Output x) r c refl m))
   shown-is i n st r c m = refl
 
   -- what is handed over, and that the components agree to it so
@@ -436,38 +412,6 @@ module _ (O : Origin) (s : State (machine O)) (t : ℕ) where
       let same = reset-once O s t x.name x.region x.generation row c.parent d.parent r q
       (agreed-as i n (step.Devreset x) r c _ a left) (agreed-as j k (step.Devreset x) q d _ b right) in
       (same.0, left ∙ ap (on_row row) same.1 ∙ sym right)
-  same-answer i n j k (step.Guests x) r q c d a b = alone i n j k (step.Guests x) r q c d (λ z. refl) a b (both a.agreed.1.0 b.agreed.1.0)
-  same-answer i n j k (step.Regions x) r q c d a b =
-      alone i n j k (step.Regions x) r q c d (λ z. refl) a b
-      (list-once O s t x.name x.generation r q (with-none i n (step.Regions x) r c (λ z. refl) a) (with-none j k (step.Regions x) q d (λ z. refl) b))
-  same-answer i n j k (step.Load x) r q c d a b =
-      let left = hands i n (step.Load x) r c a in
-      let right = hands j k (step.Load x) q d b in
-      let same = load-once O s t x.name x.path x.address x.generation c.bytes d.bytes c.window d.window c.area d.area r q
-      (agreed-as i n (step.Load x) r c _ a left) (agreed-as j k (step.Load x) q d _ b right) in
-      (same.0, left ∙ same.1 ∙ sym right)
-  same-answer i n j k (step.Mem x) r q c d a b =
-      let left = hands i n (step.Mem x) r c a in
-      let right = hands j k (step.Mem x) q d b in
-      let same = mem-once O s t x.name x.address x.count x.generation c.window d.window c.area d.area r q
-      (agreed-as i n (step.Mem x) r c _ a left) (agreed-as j k (step.Mem x) q d _ b right) in
-      (same.0, left ∙ same.1 ∙ sym right)
-  same-answer i n j k (step.Feed x) r q c d a b =
-      let one = feed-told terminal.plans here terminal.session.lines x r c (session-told i n (step.Feed x) r c refl a) in
-      let other = feed-told terminal.plans here terminal.session.lines x q d (session-told j k (step.Feed x) q d refl b) in
-      let row = row_of terminal.plans x.name x.region in
-      let left : c ≡ on_row row c.parent = hands i n (step.Feed x) r c a ∙ (λ z. on_row (one z) c.parent) in
-      let right : d ≡ on_row row d.parent = hands j k (step.Feed x) q d b ∙ (λ z. on_row (other z) d.parent) in
-      let same = feed-once O s t x.name x.region x.bytes x.generation row c.parent d.parent r q
-      (agreed-as i n (step.Feed x) r c _ a left) (agreed-as j k (step.Feed x) q d _ b right) in
-      (same.0, left ∙ same.1 ∙ sym right)
-  same-answer i n j k (step.Output x) r q c d a b =
-      let one = output-told terminal.plans here terminal.session.lines x r c (session-told i n (step.Output x) r c refl a) in
-      let other = output-told terminal.plans here terminal.session.lines x q d (session-told j k (step.Output x) q d refl b) in
-      let row = row_of terminal.plans x.name x.region in
-      let left : c ≡ on_row row None = hands i n (step.Output x) r c a ∙ (λ z. on_row (one z) None) in
-      let right : d ≡ on_row row None = hands j k (step.Output x) q d b ∙ (λ z. on_row (other z) None) in
-      (output-once O s t x.name x.region x.generation row r q (agreed-as i n (step.Output x) r c _ a left) (agreed-as j k (step.Output x) q d _ b right), left ∙ sym right)
   same-answer i n j k (step.Vadd x) r q c d a b =
       let one = vadd-told terminal.plans here terminal.session.lines x r c (session-told i n (step.Vadd x) r c refl a) in
       let other = vadd-told terminal.plans here terminal.session.lines x q d (session-told j k (step.Vadd x) q d refl b) in
@@ -515,7 +459,7 @@ module _ (O : Origin) (s : State (machine O)) (t : ℕ) where
   unique : (i n j k : ℕ) (st su : Step) (r q : Reply) (c d : Carry) → May i n st r c → May j k su q d → made i n st r c ≡ made j k su q d
   unique i n j k st su r q c d a b =
       let steps : st ≡ su =
-      next-step (given_by dir terminal.plans) (blind dir terminal.plans) (blind_once dir terminal.plans) terminal terminal.owed st su r q c d (shown-is i n st r c a, shown-is j k su q d b) a.agreed.0.step b.agreed.0.step in
+      next-step (given_by dir terminal.plans) (blind dir terminal.plans) terminal terminal.owed st su r q c d (shown-is i n st r c a, shown-is j k su q d b) a.agreed.0.step b.agreed.0.step in
       let b' : May j k st q d = subst (λ (z : Step). May j k z q d) (sym steps) b in
       let same = same-answer i n j k st r q c d a b' in
       let indexes : i ≡ j = both a.agreed.0.index b.agreed.0.index in

@@ -8,7 +8,7 @@ use Rattle.hv_model.specs.Session.{Begun, Present, Scripts, Session, Task, begun
 use Rattle.hv_model.specs.Session as session
 use Rattle.hv_model.specs.Shown.{showing, shown_in}
 use Rattle.hv_model.specs.Terminal.{Asks, FitsPresent, FitsTask, is_interrupt}
-use Rattle.hv_model.specs.Work.{Work, guest_work, once, serial_work, several, vcpu_step, vcpu_work, work_of}
+use Rattle.hv_model.specs.Work.{Work, once, several, work_of}
 use Rattle.hv_region.specs.declared.plan.GuestPlan.{GuestPlan}
 use Rattle.hv_rules.specs.Carry.{Carry}
 use Rattle.hv_rules.specs.Line.{LineState}
@@ -16,17 +16,9 @@ use Rattle.hv_step.specs.declared.step.Step.{Step}
 use Rattle.hv_step.specs.declared.step.Step.TheVariants as step
 use Rattle.hv_text.specs.declared.limits.TheConstants.{GUEST_VCPUS}
 use Rattle.hv_words.specs.Said.{said}
-use Rattle.hv_words.specs.declared.change.Change as words
-use Rattle.hv_words.specs.declared.change.Change.TheVariants as change
 use Rattle.hv_words.specs.declared.command.Command.{Command}
 use Rattle.hv_words.specs.declared.command.Command.TheVariants as command
-use Rattle.hv_words.specs.declared.guest_command.GuestCommand.{GuestCommand}
-use Rattle.hv_words.specs.declared.guest_command.GuestCommand.TheVariants as guests
 use Rattle.hv_words.specs.declared.refusal.WordsRefusal.{WordsRefusal}
-use Rattle.hv_words.specs.declared.serial_command.SerialCommand.{SerialCommand}
-use Rattle.hv_words.specs.declared.serial_command.SerialCommand.TheVariants as serial
-use Rattle.hv_words.specs.declared.vcpu_command.VcpuCommand.{VcpuCommand}
-use Rattle.hv_words.specs.declared.vcpu_command.VcpuCommand.TheVariants as vcpus
 use Rattle.hv_order_laws.specs.Owners.{IsDirectory, LineFits, Scene, SlotFits, owned_by}
 use Rattle.hv_order_laws.proofs.Begun.{begun-step, calm-proper, calm-spares, held-step, is_calm}
 use Rattle.hv_order_laws.proofs.Ending.{AreLed}
@@ -46,27 +38,8 @@ abbrev IsWork : Work → Type 0
 IsWork (once asked) = IsCommandStep asked
 IsWork (several asked) = Unit {0}
 
-vcpu-command : (c : words.Change) (number : ℕ) → IsCommandStep (vcpu_step c number)
-vcpu-command change.Kick number = tt
-vcpu-command _ number = tt
-
-guest-work : (c : GuestCommand) → IsWork (guest_work c)
-guest-work (guests.RegionAdd name region) = refl
-guest-work (guests.RegionDel name region) = refl
-guest-work _ = tt
-
-vcpu-work : (c : VcpuCommand) → IsWork (vcpu_work c)
-vcpu-work (vcpus.Change asked number) = vcpu-command asked number
-vcpu-work _ = tt
-
-serial-work : (c : SerialCommand) → IsWork (serial_work c)
-serial-work (serial.Send name region text) = tt
-serial-work (serial.Dump name region) = tt
-
 command-work : (c : Command) → IsWork (work_of c)
-command-work (command.Guest c) = guest-work c
-command-work (command.Vcpu c) = vcpu-work c
-command-work (command.Serial c) = serial-work c
+command-work (command.VfsLs path) = tt
 command-work _ = tt
 
 showing-command : (g : Option Generation) (s : Step) → IsCommandStep s → IsCommandStep (showing g s)

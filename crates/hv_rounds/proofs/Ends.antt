@@ -1,52 +1,45 @@
 -- What a closed board leaves.
-use Rattle.std.proofs.Common.{◌≡◌, ◌<◌, ◌≤◌, ℕ, zero, suc, Bool, true, false, inl, inr, ◌⊎◌, Option, Some, None, Result, Ok, Err, List, [], ◌∷◌, ◌++◌, map, filter, cond, length, refl, ap, sym, subst, ◌∙◌, arith}
-use Rattle.std.specs.Prelude.{Any, IfOk, slice_index_or}
+use Rattle.std.proofs.Common.{◌≡◌, ℕ, zero, suc, ◌<◌, ◌≤◌, max, Bool, true, false, ◌&&◌, inl, inr, ◌⊎◌, Option, Some, None, Result, Ok, Err, List, [], ◌∷◌, ◌++◌, map, filter, cond, length, refl, ap, sym, subst, ◌∙◌, arith}
+use Rattle.std.specs.Prelude.{slice_index_or, Any, IfOk, is_none}
 use Rattle.std.specs.List.{AllByRecursion, range_with_len}
-use Rattle.hv_board.specs.Board.{IsWhole, part_at}
-use Rattle.hv_board.specs.Holds.{Holds}
-use Rattle.hv_board.specs.declared.board.Board.{Board}
-use Rattle.hv_dir.specs.Pool.{Pool, devices_of}
-use Rattle.hv_emu.specs.Device.{DevState}
-use Rattle.hv_event.specs.declared.event.ActorId.{ActorId}
-use Rattle.hv_event.specs.declared.event.ActorId.TheVariants.{Hart, Terminal}
-use Rattle.hv_event.specs.declared.event.CellId.TheVariants as component
-use Rattle.hv_event.specs.declared.event.Event.{Event}
-use Rattle.hv_machine.proofs.Lists.{all-map, all-of, append-nothing}
+use Rattle.std.proofs.lemmas.Bool.{cases_lt}
+use Rattle.hv_text.specs.declared.limits.TheConstants.{GREATEST_STAMP}
 use Rattle.hv_machine.specs.Machine.{State, state_after}
 use Rattle.hv_machine.specs.Phases.{IsTwoPart}
+use Rattle.hv_machine.proofs.Lists.{all-map, all-of, append-nothing}
+use Rattle.hv_event.specs.declared.event.ActorId.{ActorId}
+use Rattle.hv_event.specs.declared.event.CellId.TheVariants as component
+use Rattle.hv_event.specs.declared.event.ActorId.TheVariants.{Hart, Terminal}
+use Rattle.hv_event.specs.declared.event.Event.{Event}
 use Rattle.hv_merge.specs.Merging.{AreLogs, IsMergeOf}
-use Rattle.hv_model.proofs.RunLemmas.{boot-leads, in-range-merged, made-leads}
-use Rattle.hv_model.specs.Cell.{Actor, Component, is_actor, same_actor}
-use Rattle.hv_model.specs.CellLaws.{same_actor-self}
 use Rattle.hv_model.specs.declared.entry.Entry.{Entry}
-use Rattle.hv_model.specs.Files.{FileMap}
-use Rattle.hv_model.specs.Hart.{HasMade, hart_at_start}
-use Rattle.hv_model.specs.Legal.{IsComplete, Leads, begun, booted, first, start}
-use Rattle.hv_model.specs.Legal.{IsSpent as IsLast}
 use Rattle.hv_model.specs.Origin.{Origin, terminals}
-use Rattle.hv_model.specs.Report.{AreTranscripts, events_of, told_at_start}
-use Rattle.hv_model.specs.Rounds.{TakesTurns}
+use Rattle.hv_model.specs.Cell.{Component, Actor, is_actor, same_actor}
+use Rattle.hv_model.specs.CellLaws.{same_actor-self}
+use Rattle.hv_model.specs.Session.{Session, next_in, HasBooted, HasEnded, has_ended}
+use Rattle.hv_model.specs.Terminal.{TerminalState, IsAtBootEnd, IsAtEnd}
+use Rattle.hv_model.specs.Hart.{HasMade, hart_at_start}
 use Rattle.hv_model.specs.Rules.{machine}
-use Rattle.hv_model.specs.Terminal.{IsAtBootEnd, IsAtEnd, TerminalState}
+use Rattle.hv_model.specs.Legal.{first, start, own_at_start, booted, begun, Leads, IsComplete}
+use Rattle.hv_model.specs.Legal.{IsSpent as IsSpentIn}
+use Rattle.hv_model.specs.Rounds.{TakesTurns}
+use Rattle.hv_model.specs.Report.{events_of, told_at_start, AreTranscripts}
 use Rattle.hv_model.specs.Transcript.{IsTranscript, asked_among}
-use Rattle.hv_parts.specs.Value.{Files, Shelf, valued}
-use Rattle.hv_parts.specs.declared.part.Part.{Part}
-use Rattle.hv_parts.specs.declared.part.Part.TheVariants as part
-use Rattle.hv_text.specs.declared.limits.TheConstants.{GREATEST_STAMP}
-use Rattle.hv_term.specs.Actor.{ActorKept}
-use Rattle.hv_rounds.specs.declared.running.Running.{Running}
+use Rattle.hv_model.proofs.RunLemmas.{made-leads, boot-leads, all-merged, in-range-merged}
+use Rattle.hv_model.specs.States.{ArePlain, led_to}
+use Rattle.hv_rounds.specs.declared.terminal.Terminal.{Terminal as TerminalCell}
+use Rattle.hv_rounds.specs.declared.board.Board.{Board}
 use Rattle.hv_rounds.specs.declared.whole.Outcome.{Outcome}
-use Rattle.hv_rounds.specs.Close.{Closes, logs_of}
-use Rattle.hv_rounds.specs.Goes.{ComesTo, Goes, own_events}
-use Rattle.hv_rounds.specs.Outcome.{IsFinished, IsOutcome, IsSpent}
-use Rattle.hv_rounds.specs.Phase.{BootEnds, IsBootPart, IsBooted, RunEnds, RunsOut}
-use Rattle.hv_rounds.specs.Running.{nobody, terminal_at}
-use Rattle.hv_rounds.specs.Turns.{AreOverFrom}
-use Rattle.hv_rounds.proofs.Merged.{MergedEntries, are-logs, by-here, by-other, entries_by, merged-entries, own-in-merged}
-use Rattle.hv_rounds.proofs.Stops.{last-made}
-use Rattle.hv_rounds.proofs.Terminals.{four-items}
+use Rattle.hv_rounds.specs.Cells.{session_of, value_of}
+use Rattle.hv_rounds.specs.Board.{at, Goes, Holds, IsHeld, IsByTerminal, FoundLast, EndedFrom}
+use Rattle.hv_rounds.specs.Phase.{BootPart, BootEnds, RoundsEnd, IsBooted}
+use Rattle.hv_rounds.specs.Close.{logs_of, Closes}
+use Rattle.hv_rounds.specs.Outcome.{IsFinished, IsSpent, IsOutcome}
+use Rattle.hv_rounds.proofs.PhaseLemmas.{terminal_of, four-items, is-none, and-both}
+use Rattle.hv_rounds.proofs.Merged.{MergedEntries, merged-entries, own-in-merged, entries_by, by-here, by-other}
+use Rattle.hv_rounds.proofs.Wholes.{goes-logs}
 
--- An element that passes, by recursion.
+-- an element that passes, by recursion
 
 abbrev Has : {A : Type 0} → (A → Type 0) → List A → Type 0
 Has P [] = ⊥
@@ -76,7 +69,7 @@ has-unfiltered P p (x ∷ xs) h =
       | false ↦ λ k. inr (has-unfiltered P p xs k)
     ] h
 
--- It is among those of its actor.
+-- it is among those of its actor
 has-own : (P : Entry → Type 0) (es : List Entry) → Has P es → (a : ActorId) × Has P (entries_by a es)
 has-own P [] h = absurd h
 has-own P (e ∷ es) (inl p) =
@@ -93,7 +86,7 @@ has-own P (e ∷ es) (inr h) =
       ] refl,
     )
 
--- A stamp that was made is in the merged list.
+-- a stamp that was made is in the merged list
 held-in-merged : (O : Origin) (es : List Entry) (H : List Event) (n : ℕ) → MergedEntries O es H → Any (λ e. e.event.stamp ≡ n) es → Any (λ e. e.stamp ≡ n) H
 held-in-merged O es H n m found =
     let At : Entry → Type 0 = λ e. e.event.stamp ≡ n in
@@ -105,203 +98,228 @@ held-in-merged O es H n m found =
     let There : List Event → Type 0 = Any Is in
     subst There m.events (any-has Is (map (λ e. e.event) m.all) (has-map Is (λ e. e.event) m.all all))
 
--- The files and the devices of a board are those of a state that it holds.
+-- no event changes a VCPU
+all-events : (P : Event → Type 0) (es : List Entry) → AllByRecursion (λ e. P e.event) es → AllByRecursion P (map (λ (e : Entry). e.event) es)
+all-events P [] h = tt
+all-events P (e ∷ es) h = (h.0, all-events P es h.1)
 
-module _ {E : Type 0} (state : E → DevState) (O : Origin) (s : State (machine O)) (board : Board E) (holds : Holds state O s board) where
-  some-same : (p q : Part E) → Some p ≡ Some q → p ≡ q
-  some-same p q is = cc
+plain-merged : (O : Origin) (es : List Entry) (H : List Event) → MergedEntries O es H → AllByRecursion IsByTerminal es → ArePlain H
+plain-merged O es H m by =
+    let Plain : Event → Type 0 = λ e. led_to e.actor e.step e.reply ≡ None in
+    let Made : Entry → Type 0 = λ e. Plain e.event in
+    let each : AllByRecursion Made es = all-map IsByTerminal Made (λ e b. b.plain) es by in
+    let All : List Event → Type 0 = AllByRecursion Plain in
+    subst All m.events (all-events Plain m.all (all-merged O Made es m.all m.merged each))
 
-  files-same : (m n : FileMap) → Files m ≡ Files n → m ≡ n
-  files-same m n is = cc
+-- the last stamp was made
 
-  shelf-same : (m n : List DevState) → Shelf m ≡ Shelf n → m ≡ n
-  shelf-same m n is = cc
+max-one : (x y : ℕ) → (max x y ≡ x) ⊎ (max x y ≡ y)
+max-one x y = elim (cases_lt x y) [ inl less ↦ inr (omega arith) | inr not_less ↦ inl (omega arith) ]
 
-  pub final-files : (files : FileMap) → part_at board component.Files ≡ Some (part.Files files) → (s (Component component.Files)).value ≡ files
-  final-files files is =
-      let at = holds.each component.Files tt in
-      let same : at.part ≡ part.Files files = some-same at.part (part.Files files) (sym at.is ∙ is) in
-      files-same (s (Component component.Files)).value files (sym at.value ∙ ap (valued state) same)
+made-stamp : (es : List Entry) (m n : ℕ) → m ≡ n → n ≡ GREATEST_STAMP → IsHeld es m → Any (λ e. e.event.stamp ≡ n) es
+made-stamp es m n is last (inl none) = absurd (omega arith)
+made-stamp es m n is last (inr some) = subst (λ (k : ℕ). Any (λ (e : Entry). e.event.stamp ≡ k) es) is some
 
-  pub final-shelf : (shelf : Pool E) → part_at board component.Shelf ≡ Some (part.Shelf shelf) → (s (Component component.Shelf)).value ≡ devices_of state shelf
-  final-shelf shelf is =
-      let at = holds.each component.Shelf tt in
-      let same : at.part ≡ part.Shelf shelf = some-same at.part (part.Shelf shelf) (sym at.is ∙ is) in
-      shelf-same (s (Component component.Shelf)).value (devices_of state shelf) (sym at.value ∙ ap (valued state) same)
+found-made : (O : Origin) (s : State (machine O)) (before made : List Entry) (b : Board) (n : ℕ) → Goes O s before made b → FoundLast b n → Any (λ e. e.event.stamp ≡ n) (before ++ made)
+found-made O s before made b n g found =
+    let d = terminal_of b in
+    let t = found.terminal in
+    elim (max-one (at b t d).stamp b.files.stamp) [
+      | inl own ↦ made-stamp (before ++ made) (at b t d).stamp n (sym own ∙ found.found d) found.last (g.held t d found.is_one)
+      | inr files ↦ made-stamp (before ++ made) b.files.stamp n (sym files ∙ found.found d) found.last g.files_held
+    ]
 
--- The logs of four terminals.
-four-logs : (es : List Entry) (xs : List ActorKept) → length xs ≡ 4 → ((t : ℕ) → t < 4 → (slice_index_or xs t nobody).events ≡ own_events t es) → map (λ a. a.events) xs ≡ logs_of es
-four-logs es [] four h = absurd (omega arith)
-four-logs es (x ∷ []) four h = absurd (omega arith)
-four-logs es (x ∷ y ∷ []) four h = absurd (omega arith)
-four-logs es (x ∷ y ∷ z ∷ []) four h = absurd (omega arith)
-four-logs es (x ∷ y ∷ z ∷ w ∷ []) four h =
-    let h0 = h 0 (omega arith) in
-    let h1 = h 1 (omega arith) in
-    let h2 = h 2 (omega arith) in
-    let h3 = h 3 (omega arith) in
-    λ i. h0 i ∷ h1 i ∷ h2 i ∷ h3 i ∷ []
-four-logs es (x ∷ y ∷ z ∷ w ∷ v ∷ xs) four h = absurd (omega arith)
+-- ends
 
-four-transcripts : (O : Origin) (H : List Event) (xs : List ActorKept) → length xs ≡ 4
-    → ((t : ℕ) → t < 4 → IsTranscript O.opening.plans (told_at_start O t) (asked_among (events_of t H)) (slice_index_or xs t nobody).transcript.text)
-    → AreTranscripts O H terminals (map (λ a. a.transcript.text) xs)
-four-transcripts O H [] four h = absurd (omega arith)
-four-transcripts O H (x ∷ []) four h = absurd (omega arith)
-four-transcripts O H (x ∷ y ∷ []) four h = absurd (omega arith)
-four-transcripts O H (x ∷ y ∷ z ∷ []) four h = absurd (omega arith)
-four-transcripts O H (x ∷ y ∷ z ∷ w ∷ []) four h = (h 0 (omega arith), (h 1 (omega arith), (h 2 (omega arith), (h 3 (omega arith), tt))))
-four-transcripts O H (x ∷ y ∷ z ∷ w ∷ v ∷ xs) four h = absurd (omega arith)
+at-end : (t : TerminalState) → t.owed ≡ [] → has_ended t.session ≡ true → IsAtEnd t
+at-end t owed is =
+    let s = t.session in
+    let both = and-both (is_none s.line) (is_none (next_in s.boot) && is_none (next_in s.own)) is in
+    let scripts = and-both (is_none (next_in s.boot)) (is_none (next_in s.own)) both.1 in
+    record {
+      owed = owed;
+      ended = record { line = is-none s.line both.0; boot = is-none (next_in s.boot) scripts.0; own = is-none (next_in s.own) scripts.1 };
+    }
+
+-- what is at its end has ended
+ended-at : (s : Session) → HasEnded s → has_ended s ≡ true
+ended-at s end =
+    let line : is_none s.line ≡ true = ap is_none end.line in
+    let boot : is_none (next_in s.boot) ≡ true = ap is_none end.boot in
+    let own : is_none (next_in s.own) ≡ true = ap is_none end.own in
+    rw line (rw boot own)
+
+-- a step that a board has stopped is due in the state that the board holds
+spent-in : (O : Origin) (s : State (machine O)) (b : Board) (n : ℕ) → Holds O s b → FoundLast b n → IsSpentIn O s
+spent-in O s b n holds found =
+    let d = terminal_of b in
+    let t = found.terminal in
+    record {
+      terminal = t;
+      is_one = found.is_one;
+      due = λ end.
+          (let ended : has_ended (session_of (at b t d)) ≡ true = ended-at (session_of (at b t d)) (subst IsAtEnd (holds.terminals t d found.is_one) end).ended in
+          let left = found.left d in
+          absurd (cc));
+      found = ap (λ (k : ℕ). max k (s (Component component.Files)).stamp) (holds.stamps t d found.is_one)
+          ∙ ap (max (at b t d).stamp) holds.files_stamp ∙ found.found d ∙ found.last;
+    }
+
+all-join : {A : Type 0} (P : A → Type 0) (xs ys : List A) → AllByRecursion P xs → AllByRecursion P ys → AllByRecursion P (xs ++ ys)
+all-join P [] ys h k = k
+all-join P (x ∷ xs) ys h k = (h.0, all-join P xs ys h.1 k)
 
 all-four : (P : ℕ → Type 0) → P 0 → P 1 → P 2 → P 3 → AllByRecursion P (0 ∷ 1 ∷ 2 ∷ 3 ∷ [])
 all-four P a b c d = (a, (b, (c, (d, tt))))
 
-module _ {E : Type 0} (state : E → DevState) (O : Origin) (s : State (machine O)) (es : List Entry) (r : Running E) (comes : ComesTo state O s es r) where
-  logs-are : map (λ a. a.events) r.terminals.items ≡ logs_of es
-  logs-are = four-logs es r.terminals.items (four-items r) (λ t lt. (comes.shown t lt).events)
+four-transcripts : (O : Origin) (H : List Event) (xs : List TerminalCell) → length xs ≡ 4
+    → ((t : ℕ) (d : TerminalCell) → t < 4 → IsTranscript O.opening.plans (told_at_start O t) (asked_among (events_of t H)) (slice_index_or xs t d).shown)
+    → AreTranscripts O H terminals (map (λ x. x.shown) xs)
+four-transcripts O H [] four h = absurd (omega arith)
+four-transcripts O H (x ∷ []) four h = absurd (omega arith)
+four-transcripts O H (x ∷ y ∷ []) four h = absurd (omega arith)
+four-transcripts O H (x ∷ y ∷ z ∷ []) four h = absurd (omega arith)
+four-transcripts O H (x ∷ y ∷ z ∷ w ∷ []) four h = (h 0 x (omega arith), (h 1 x (omega arith), (h 2 x (omega arith), (h 3 x (omega arith), tt))))
+four-transcripts O H (x ∷ y ∷ z ∷ w ∷ v ∷ xs) four h = absurd (omega arith)
 
-  pub comes-logs : AreLogs (map (λ a. a.events) r.terminals.items)
-  comes-logs =
-      let Logs : List (List Event) → Type 0 = AreLogs in
-      subst Logs (sym logs-are)
-      (are-logs es (λ t lt. (comes.shown t lt).log)
-      (λ t lt. all-map (λ (e : Event). (e.stamp ≤ (terminal_at r t).stamp) × (e.actor ≡ Terminal t)) (λ (e : Event). e.actor ≡ Terminal t) (λ e h. h.1) (own_events t es) (comes.shown t lt).upto))
+module _ (O : Origin) (boot : List Entry) (b : Board) (p : BootPart O boot b) where
+  boot-value : (d : TerminalCell) → (booted O boot first).value ≡ value_of O.opening.plans (at b 0 d)
+  boot-value d = p.goes.holds.terminals 0 d (omega arith)
 
-  merge-is : (H : List Event) → IsMergeOf (map (λ a. a.events) r.terminals.items) H → IsMergeOf (logs_of es) H
-  merge-is H merge = let Merge : List (List Event) → Type 0 = λ logs. IsMergeOf logs H in subst Merge logs-are merge
+  boot-within : (booted O boot first).value.session.own ≡ own_at_start O 0
+  boot-within = let d = terminal_of b in ap (λ (v : TerminalState). v.session.own) (boot-value d) ∙ p.own d
 
-  merged-is : (H : List Event) → IsMergeOf (map (λ a. a.events) r.terminals.items) H → MergedEntries O es H
-  merged-is H merge = merged-entries O es H comes.by_terminals (merge-is H merge)
-
-  -- A run that was stopped here.
-  pub spent-here : (spent : Option ℕ) (n : ℕ) (o : Outcome E) → n ≡ GREATEST_STAMP → IsLast O s → ((H : List Event) → MergedEntries O es H → Leads O H s) → Closes r spent o → IsSpent state O o n
-  spent-here spent n o is last leads closes =
-      let H = o.history.items in
-      let merged = merged-is H closes.history in
-      record {
-        run = record {
-          state = s;
-          legal = leads H merged;
-          spent = last;
-          final = final-files state O s r.board comes.holds o.files closes.files;
-          shelf = final-shelf state O s r.board comes.holds o.shelf closes.shelf;
-        };
-        last = is;
-        held = held-in-merged O es H n merged (last-made O s es n comes.held is last);
-      }
-
-  -- What the terminals have shown.
-  shown-here : (H : List Event) → IsMergeOf (map (λ a. a.events) r.terminals.items) H → AreTranscripts O H terminals (map (λ a. a.transcript.text) r.terminals.items)
-  shown-here H merge =
-      four-transcripts O H r.terminals.items (four-items r) (λ t lt.
-      (let Script : List Event → Type 0 = λ own. IsTranscript O.opening.plans (told_at_start O t) (asked_among own) (terminal_at r t).transcript.text in
-      subst Script (sym (own-in-merged es H comes.by_terminals (merge-is H merge) t)) (comes.shown t lt).shown))
-
-  -- What is left to do where all are at their ends: nothing.
-  complete-here : O.opening.turns ≡ 0 → AreOverFrom r 0 → IsComplete O s
-  complete-here turns over =
-      let AtEnd : TerminalState → Type 0 = IsAtEnd in
-      let of : (t : ℕ) → t < 4 → IsAtEnd (s (Actor (Terminal t))).value = λ t lt. subst AtEnd (sym (comes.stands t lt).value) (over t (omega arith) lt) in
-      record {
-        terminals = all-four (λ t. IsAtEnd (s (Actor (Terminal t))).value) (of 0 (omega arith)) (of 1 (omega arith)) (of 2 (omega arith)) (of 3 (omega arith));
-        harts = all-of (λ h. HasMade O.opening.turns (s (Actor (Hart h))).value) (λ h.
-            (let is : (s (Actor (Hart h))).value ≡ hart_at_start O.opening.harts O.opening.turns h = comes.harts h in
-            subst (HasMade O.opening.turns) (sym is) (record { turns_are = sym turns; pending = refl; owed = refl }))) (range_with_len 0 O.opening.harts);
-      }
-
-module _ (O : Origin) (boot : List Entry) (part' : IsBootPart O boot) where
   boot-alone : AllByRecursion (λ e. (machine O).actor e ≡ first) boot
-  boot-alone = all-map (λ (e : Entry). e.event.actor ≡ Terminal 0) (λ (e : Entry). (machine O).actor e ≡ first) (λ e h. ap Actor h) boot part'.alone
+  boot-alone = all-map (λ (e : Entry). e.event.actor ≡ Terminal 0) (λ (e : Entry). (machine O).actor e ≡ first) (λ e h. ap Actor h) boot p.alone
 
-  -- A run that is within its boot script.
-  pub leads-boot : AllByRecursion (λ e. e.event.stamp ≤ GREATEST_STAMP) boot → (IsAtBootEnd (booted O boot first).value → ⊥) → (H : List Event) → MergedEntries O boot H → Leads O H (booted O boot)
-  leads-boot range not_end H merged =
+  pub boot-logs : AreLogs (logs_of (boot ++ []))
+  boot-logs = let Logs : List Entry → Type 0 = λ es. AreLogs (logs_of es) in subst Logs (sym (append-nothing boot)) (goes-logs O (start O) [] boot b p.goes)
+
+  -- a run that was stopped in the boot script
+  pub spent-boot : (b' : Board) (n : ℕ) (o : Outcome) → ((d : TerminalCell) → HasBooted (session_of (at b 0 d)) → ⊥) → b'.files ≡ b.files → FoundLast b n → Closes b' (boot ++ []) (Some n) o → IsSpent O o n
+  spent-boot b' n o not_end files found c =
       let same : boot ++ [] ≡ boot = append-nothing boot in
+      let By : List Entry → Type 0 = AllByRecursion IsByTerminal in
       let Range : List Entry → Type 0 = AllByRecursion (λ e. e.event.stamp ≤ GREATEST_STAMP) in
-      let Merged : List Entry → Type 0 = λ es. MergedEntries O es H in
-      let both = subst Merged (sym same) merged in
-      let parts : IsTwoPart (machine O) is_actor first (start O) boot [] = record { alone = boot-alone; boot_runs = part'.runs; later_runs = tt } in
+      let Made : List Entry → Type 0 = Any (λ e. e.event.stamp ≡ n) in
+      let merged = merged-entries O (boot ++ []) o.history.items (subst By (sym same) p.goes.by_terminals) c.history in
+      let parts : IsTwoPart (machine O) is_actor first (start O) boot [] = record { alone = boot-alone; boot_runs = p.goes.run; later_runs = tt } in
+      let d = terminal_of b in
+      let leads = boot-leads O boot merged.all parts merged.merged (subst Range (sym same) p.goes.in_range) boot-within (λ end. not_end d (subst IsAtBootEnd (boot-value d) end).booted) in
       let Led : List Event → Type 0 = λ H. Leads O H (booted O boot) in
-      subst Led both.events (boot-leads O boot both.all parts both.merged (subst Range (sym same) range) part'.within not_end)
-
-module _ {E : Type 0} (state : E → DevState) (O : Origin) (boot : List Entry) (i : IsBooted O boot) (made : List Entry) (r : Running E) (g : Goes state O (begun O boot) boot made r) where
-  both-parts : IsTwoPart (machine O) is_actor first (start O) boot made
-  both-parts = record { alone = boot-alone O boot i.part; boot_runs = i.part.runs; later_runs = g.run }
-
-  pub leads-later : (H : List Event) → MergedEntries O (boot ++ made) H → Leads O H (state_after (machine O) (begun O boot) made)
-  leads-later H merged =
-      let Led : List Event → Type 0 = λ H. Leads O H (state_after (machine O) (begun O boot) made) in
-      subst Led merged.events (made-leads O boot made merged.all both-parts merged.merged g.comes.in_range i.part.within i.ended)
-
-  -- A run that came to its end.
-  pub finished : (spent : Option ℕ) (o : Outcome E) → O.opening.turns ≡ 0 → TakesTurns O (begun O boot) [] made → AreOverFrom r 0 → Closes r spent o → IsFinished state O o
-  finished spent o turns took over closes =
-      let s = state_after (machine O) (begun O boot) made in
-      let es = boot ++ made in
-      let H = o.history.items in
-      let merged = merged-is state O s es r g.comes H closes.history in
-      let Texts : List (List ℕ) → Type 0 = AreTranscripts O H terminals in
       record {
-        run = record {
-          state = s;
-          legal = leads-later H merged;
-          complete = complete-here state O s es r g.comes turns over;
-          final = final-files state O s r.board g.comes.holds o.files closes.files;
-          shelf = final-shelf state O s r.board g.comes.holds o.shelf closes.shelf;
-        };
-        rounds = record {
-          boot = boot;
-          made = made;
-          all = merged.all;
-          parts = both-parts;
-          boot_ended = i.ended;
-          within = i.part.within;
-          turns = took;
-          merged = merged.merged;
-          events = merged.events;
-          in_range = in-range-merged O es merged.all merged.merged g.comes.in_range;
-        };
-        shown = subst Texts (sym closes.shown) (shown-here state O s es r g.comes H closes.history);
+        run = record { state = booted O boot; legal = subst Led merged.events leads; spent = spent-in O (booted O boot) b n p.goes.holds found; final = p.goes.holds.files ∙ ap (λ f. f.tree) (sym files) ∙ sym c.files; shelf = p.goes.holds.shelf };
+        last = found.last;
+        held = held-in-merged O (boot ++ []) o.history.items n merged (subst Made (sym same) (found-made O (start O) [] boot b n p.goes found));
       }
 
--- Outcomes.
+  module _ (end : (d : TerminalCell) → HasBooted (session_of (at b 0 d))) (made : List Entry) (c : Board) (g : Goes O (begun O boot) boot made c) where
+    boot-ended : IsAtBootEnd (booted O boot first).value
+    boot-ended = let d = terminal_of b in subst IsAtBootEnd (sym (boot-value d)) (record { owed = refl; booted = end d })
 
-boot-spent : {E : Type 0} (state : E → DevState) (O : Origin) (r : Running E) (spent : Option ℕ) (n : ℕ) (o : Outcome E) → BootEnds state O r (Some n) → Closes r spent o → IsSpent state O o n
-boot-spent state O r spent n o ends closes =
-    let boot = ends.0 in
-    let b = ends.1 in
-    let AtEnd : TerminalState → Type 0 = IsAtBootEnd in
-    let not_end : IsAtBootEnd (booted O boot first).value → ⊥ = λ end. ends.2 (subst AtEnd (b.goes.comes.stands 0 (omega arith)).value end) in
-    spent-here state O (booted O boot) boot r b.goes.comes spent n o ends.3 ends.4 (leads-boot O boot b.part b.goes.comes.in_range not_end) closes
+    both-by : AllByRecursion IsByTerminal (boot ++ made)
+    both-by = all-join IsByTerminal boot made p.goes.by_terminals g.by_terminals
 
-later-spent : {E : Type 0} (state : E → DevState) (O : Origin) (r : Running E) (spent : Option ℕ) (n : ℕ) (o : Outcome E) → RunsOut state O r (Some n) → Closes r spent o → IsSpent state O o n
-later-spent state O r spent n o out closes =
-    let made = out.rounds.0 in
-    let g = out.rounds.1 in
-    spent-here state O (state_after (machine O) (begun O out.boot) made) (out.boot ++ made) r g.comes spent n o out.rounds.2 out.rounds.3 (leads-later state O out.boot out.booted made r g) closes
+    both-range : AllByRecursion (λ e. e.event.stamp ≤ GREATEST_STAMP) (boot ++ made)
+    both-range = all-join (λ e. e.event.stamp ≤ GREATEST_STAMP) boot made p.goes.in_range g.in_range
 
-by-spent : {E : Type 0} (state : E → DevState) (O : Origin) (r : Running E) (ended spent : Option ℕ) (o : Outcome E) → O.opening.turns ≡ 0 → RunEnds state O r ended → Closes r spent o → IsOutcome state O o ended
-by-spent state O r None spent o turns out closes = finished state O out.boot out.booted out.rounds.0 r out.rounds.1 spent o turns out.rounds.2 out.rounds.3 closes
-by-spent state O r (Some n) spent o turns (inl ends) closes = boot-spent state O r spent n o ends closes
-by-spent state O r (Some n) spent o turns (inr out) closes = later-spent state O r spent n o out closes
+    both-parts : IsTwoPart (machine O) is_actor first (start O) boot made
+    both-parts = record { alone = boot-alone; boot_runs = p.goes.run; later_runs = g.run }
 
-pub outcome : {E : Type 0} (state : E → DevState) (O : Origin) (r : Running E) (spent : Option ℕ) (o : Outcome E) → O.opening.turns ≡ 0 → RunEnds state O r spent → Closes r spent o → IsOutcome state O o o.spent
-outcome state O r spent o turns ends closes =
-    let Is : Option ℕ → Type 0 = IsOutcome state O o in
-    subst Is (sym closes.spent_is) (by-spent state O r spent spent o turns ends closes)
+    both-lead : (H : List Event) → MergedEntries O (boot ++ made) H → Leads O H (state_after (machine O) (begun O boot) made)
+    both-lead H merged =
+        let Led : List Event → Type 0 = λ H. Leads O H (state_after (machine O) (begun O boot) made) in
+        subst Led merged.events (made-leads O boot made merged.all both-parts merged.merged both-range boot-within boot-ended)
 
--- The board of a run that has ended is whole.
-pub end-whole : {E : Type 0} (state : E → DevState) (O : Origin) (r : Running E) (spent : Option ℕ) → RunEnds state O r spent → IsWhole state r.board
-end-whole state O r None out = out.rounds.1.comes.whole
-end-whole state O r (Some n) (inl ends) = ends.1.goes.comes.whole
-end-whole state O r (Some n) (inr out) = out.rounds.1.comes.whole
+    -- a run that was stopped in its rounds
+    pub spent-later : (b' : Board) (n : ℕ) (o : Outcome) → b'.files ≡ c.files → FoundLast c n → Closes b' (boot ++ made) (Some n) o → IsSpent O o n
+    spent-later b' n o files found k =
+        let merged = merged-entries O (boot ++ made) o.history.items both-by k.history in
+        record {
+          run = record {
+            state = state_after (machine O) (begun O boot) made;
+            legal = both-lead o.history.items merged;
+            spent = spent-in O (state_after (machine O) (begun O boot) made) c n g.holds found;
+            final = g.holds.files ∙ ap (λ f. f.tree) (sym files) ∙ sym k.files;
+            shelf = g.holds.shelf;
+          };
+          last = found.last;
+          held = held-in-merged O (boot ++ made) o.history.items n merged (found-made O (begun O boot) boot made c n g found);
+        }
 
--- The logs of a run that has ended are logs.
-pub end-logs : {E : Type 0} (state : E → DevState) (O : Origin) (r : Running E) (spent : Option ℕ) → RunEnds state O r spent → AreLogs (map (λ a. a.events) r.terminals.items)
-end-logs state O r None out = comes-logs state O (state_after (machine O) (begun O out.boot) out.rounds.0) (out.boot ++ out.rounds.0) r out.rounds.1.comes
-end-logs state O r (Some n) (inl ends) = comes-logs state O (booted O ends.0) ends.0 r ends.1.goes.comes
-end-logs state O r (Some n) (inr out) = comes-logs state O (state_after (machine O) (begun O out.boot) out.rounds.0) (out.boot ++ out.rounds.0) r out.rounds.1.comes
+    -- what is left to do at the end: nothing
+    complete : O.opening.turns ≡ 0 → EndedFrom c 0 → IsComplete O (state_after (machine O) (begun O boot) made)
+    complete turns ended =
+        let d = terminal_of c in
+        let of : (t : ℕ) → t < 4 → IsAtEnd (state_after (machine O) (begun O boot) made (Actor (Terminal t))).value =
+        λ t lt. subst IsAtEnd (sym (g.holds.terminals t d lt)) (at-end (value_of O.opening.plans (at c t d)) refl (ended t d (omega arith) lt)) in
+        record {
+          terminals = all-four (λ t. IsAtEnd (state_after (machine O) (begun O boot) made (Actor (Terminal t))).value) (of 0 (omega arith)) (of 1 (omega arith)) (of 2 (omega arith)) (of 3 (omega arith));
+          harts = all-of (λ h. HasMade O.opening.turns (state_after (machine O) (begun O boot) made (Actor (Hart h))).value) (λ h.
+              (let is : (state_after (machine O) (begun O boot) made (Actor (Hart h))).value ≡ hart_at_start O.opening.harts O.opening.turns h = g.holds.harts h in
+              subst (HasMade O.opening.turns) (sym is) (record { turns_are = sym turns; pending = refl; owed = refl }))) (range_with_len 0 O.opening.harts);
+        }
 
-pub ok-map : {A X : Type 0} (P Q : A → Type 0) (r : Result A X) → ((x : A) → P x → Q x) → IfOk r P → IfOk r Q
+    -- what the terminals have shown
+    shown : (H : List Event) → IsMergeOf (logs_of (boot ++ made)) H → AreTranscripts O H terminals (map (λ x. x.shown) c.terminals.items)
+    shown H merge =
+        four-transcripts O H c.terminals.items (four-items c) (λ t d lt.
+        (let Script : List Event → Type 0 = λ own. IsTranscript O.opening.plans (told_at_start O t) (asked_among own) (at c t d).shown in
+        subst Script (sym (own-in-merged (boot ++ made) H both-by merge t)) (g.shown t d lt).shown))
+
+    -- a run that came to its end
+    pub finished : (o : Outcome) → O.opening.turns ≡ 0 → TakesTurns O (begun O boot) [] made → EndedFrom c 0 → Closes c (boot ++ made) None o → IsFinished O o
+    finished o turns took ended k =
+        let merged = merged-entries O (boot ++ made) o.history.items both-by k.history in
+        record {
+          run = record {
+            state = state_after (machine O) (begun O boot) made;
+            legal = both-lead o.history.items merged;
+            complete = complete turns ended;
+            final = g.holds.files ∙ sym k.files;
+            shelf = g.holds.shelf;
+          };
+          rounds = record {
+            boot = boot;
+            made = made;
+            all = merged.all;
+            parts = both-parts;
+            boot_ended = boot-ended;
+            within = boot-within;
+            turns = took;
+            merged = merged.merged;
+            events = merged.events;
+            in_range = in-range-merged O (boot ++ made) merged.all merged.merged both-range;
+          };
+          shown = subst (AreTranscripts O o.history.items terminals) (sym k.shown) (shown o.history.items k.history);
+          plain = plain-merged O (boot ++ made) o.history.items merged both-by;
+        }
+
+-- outcomes
+
+pub ok-map : {A E : Type 0} (P Q : A → Type 0) (r : Result A E) → ((x : A) → P x → Q x) → IfOk r P → IfOk r Q
 ok-map P Q (Ok x) f h = f x h
 ok-map P Q (Err e) f h = tt
+
+pub boot-outcome : (O : Origin) (boot : List Entry) (b : Board) (n : ℕ) (o : Outcome) → BootEnds O boot b (Some n) → Closes b (boot ++ []) (Some n) o → IsOutcome O o o.spent
+boot-outcome O boot b n o ends k =
+    let Is : Option ℕ → Type 0 = λ s. IsOutcome O o s in
+    subst Is (sym k.spent_is) (spent-boot O boot ends.0 ends.1 b n o ends.2 ends.3 ends.4 k)
+
+pub stopped-logs : (O : Origin) (boot : List Entry) (b : Board) (n : ℕ) → BootEnds O boot b (Some n) → AreLogs (logs_of (boot ++ []))
+stopped-logs O boot b n ends = boot-logs O boot ends.0 ends.1
+
+pub rounds-logs : (O : Origin) (boot made : List Entry) (b : Board) (spent : Option ℕ) → RoundsEnd O (begun O boot) boot made b spent → AreLogs (logs_of (boot ++ made))
+rounds-logs O boot made b None ends = goes-logs O (begun O boot) boot made b ends.0
+rounds-logs O boot made b (Some n) ends = goes-logs O (begun O boot) boot made ends.0 ends.1
+
+rounds-by : (O : Origin) (boot made : List Entry) (b1 b : Board) (spent : Option ℕ) (o : Outcome) → O.opening.turns ≡ 0 → IsBooted O boot b1
+    → RoundsEnd O (begun O boot) boot made b spent → Closes b (boot ++ made) spent o → IsOutcome O o spent
+rounds-by O boot made b1 b None o turns i ends k = finished O boot b1 i.part i.ended made b ends.0 o turns ends.1 ends.2 k
+rounds-by O boot made b1 b (Some n) o turns i ends k = spent-later O boot b1 i.part i.ended made ends.0 ends.1 b n o ends.2 ends.3 k
+
+pub rounds-outcome : (O : Origin) (boot made : List Entry) (b1 b : Board) (spent : Option ℕ) (o : Outcome) → O.opening.turns ≡ 0 → IsBooted O boot b1
+    → RoundsEnd O (begun O boot) boot made b spent → Closes b (boot ++ made) spent o → IsOutcome O o o.spent
+rounds-outcome O boot made b1 b spent o turns i ends k =
+    let Is : Option ℕ → Type 0 = λ s. IsOutcome O o s in
+    subst Is (sym k.spent_is) (rounds-by O boot made b1 b spent o turns i ends k)

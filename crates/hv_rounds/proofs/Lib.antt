@@ -1,11 +1,10 @@
-pub mod Machines
-pub mod Terminals
-pub mod Told
-pub mod Stepping
-pub mod Stops
+pub mod Shown
+pub mod Stacks
+pub mod Steps
+pub mod Boards
 pub mod Rounds
+pub mod Goes
 pub mod PhaseLemmas
-pub mod Starts
 pub mod Merged
+pub mod Wholes
 pub mod Ends
-pub mod Good

@@ -19,7 +19,7 @@ use Rattle.hv_model.specs.Cell.{Cell, Component, Actor, same_cell, same_actor, r
 use Rattle.hv_model.specs.CellLaws.{same_actor-self, same_actor-only}
 use Rattle.hv_model.specs.Rules.{machine}
 use Rattle.hv_model.specs.Report.{is_terminal}
-use Rattle.hv_rounds.specs.Goes.{own_events, IsByTerminal}
+use Rattle.hv_rounds.specs.Board.{own_events, IsByTerminal}
 use Rattle.hv_rounds.specs.Close.{logs_of}
 
 abbrev pub event_of : Entry → Event

@@ -1,89 +1,148 @@
 -- The phases of a run.
-use Rattle.std.proofs.Common.{◌≡◌, ◌≢◌, ◌+◌, ◌-◌, ◌<◌, ◌≤◌, ℕ, zero, suc, inl, inr, Option, Some, None, Ok, Err, List, [], ◌∷◌, ◌++◌, refl, ap, sym, subst, ◌∙◌, arith}
+use Rattle.std.proofs.Common.{◌≡◌, ◌≢◌, ℕ, zero, suc, ◌+◌, ◌-◌, ◌*◌, ◌<◌, ◌≤◌, Bool, true, false, ◌&&◌, inl, inr, Option, Some, None, Ok, Err, List, [], ◌∷◌, ◌++◌, length, refl, ap, sym, ◌∙◌, arith}
+use Rattle.std.specs.Prelude.{slice_index_or, is_none}
+use Rattle.std.proofs.lemmas.List.{get_or_default}
+use Rattle.hv_text.specs.declared.limits.TheConstants.{GREATEST_STAMP}
+use Rattle.hv_machine.specs.Machine.{State, state_after}
+use Rattle.hv_event.specs.declared.event.ActorId.TheVariants.{Terminal}
 use Rattle.hv_answer.specs.declared.reply.Reply.{Reply}
 use Rattle.hv_answer.specs.declared.reply.Reply.TheVariants as reply
-use Rattle.hv_board.specs.Board.{IsWhole}
-use Rattle.hv_board_steps.specs.Sound.{IsSound}
-use Rattle.hv_emu.specs.Device.{DevState}
-use Rattle.hv_event.specs.declared.event.ActorId.TheVariants.{Terminal}
-use Rattle.hv_machine.specs.Machine.{State, state_after}
 use Rattle.hv_model.specs.declared.entry.Entry.{Entry}
-use Rattle.hv_model.specs.Legal.{begun, booted, first, start}
 use Rattle.hv_model.specs.Origin.{Origin}
-use Rattle.hv_model.specs.Plans.{Planned}
-use Rattle.hv_model.specs.Rules.{machine}
-use Rattle.hv_model.specs.Session.{HasBooted, Present, Scripts, Session, Task, begun_boot, first_of, goes, made_at, makes, next_in, present_with, session_after, task_of, tells, with_script}
-use Rattle.hv_model.specs.Terminal.{IsAtBootEnd, TerminalState, terminal_after, terminal_with}
 use Rattle.hv_rules.specs.Carry.{Carry}
 use Rattle.hv_rules.specs.Line.{LineState}
-use Rattle.hv_step.specs.declared.step.Step.{Step}
-use Rattle.hv_text.specs.declared.limits.TheConstants.{GREATEST_STAMP}
 use Rattle.hv_words.specs.Said.{said}
-use Rattle.hv_term.specs.Actor.{ActorKept, HoldSome}
-use Rattle.hv_term.specs.Orderly.{IsOrderly, RegionsCanBe}
-use Rattle.hv_rounds.specs.declared.running.Running.{Running}
-use Rattle.hv_rounds.specs.Goes.{ComesTo, Goes}
-use Rattle.hv_rounds.specs.Phase.{BootEnds, Boots, IsBooted, RoundsEnd, RunEnds, RunsOut}
-use Rattle.hv_rounds.specs.Running.{MakesStep, StopsAt, terminal_at}
-use Rattle.hv_rounds.specs.Sound.{CanRun}
-use Rattle.hv_rounds.specs.Turns.{IsOver, IsTurn}
-use Rattle.hv_rounds.proofs.Machines.{all-push}
-use Rattle.hv_rounds.proofs.Rounds.{TookTurns, last_terminals, no-turn, round-begins, turn-taken, turns-end, turns-push}
-use Rattle.hv_rounds.proofs.Stepping.{actor-is, event-rises, goes-step}
-use Rattle.hv_rounds.proofs.Stops.{goes-stopped, same-terminals, stops-last}
-use Rattle.hv_rounds.proofs.Terminals.{is-at}
+use Rattle.hv_model.specs.Plans.{Planned}
+use Rattle.hv_model.specs.Session.{Scripts, Session, next_in, begun_boot, Task, makes, goes, tells, task_of, first_of, Present, present_with, with_script, made_at, session_after, HasBooted, has_ended}
+use Rattle.hv_model.specs.Rules.{machine}
+use Rattle.hv_model.specs.Legal.{start}
+use Rattle.hv_rounds.specs.declared.files.FileCell.{FileCell}
+use Rattle.hv_rounds.specs.declared.terminal.Terminal.{Terminal as TerminalCell}
+use Rattle.hv_rounds.specs.declared.board.Board.{Board}
+use Rattle.hv_rounds.specs.Cells.{session_of}
+use Rattle.hv_rounds.specs.Step.{IsStep}
+use Rattle.hv_rounds.specs.Board.{at, IsBoardStep, Goes, IsTurn}
+use Rattle.hv_rounds.specs.Phase.{BootPart, RoundsEnd}
+use Rattle.hv_rounds.proofs.Boards.{part-of, leaves, takes}
+use Rattle.hv_rounds.proofs.Goes.{goes-step, all-push}
+use Rattle.hv_rounds.proofs.Rounds.{last_terminals, TookTurns, turns-push, turns-end, round-begins, turn-taken, no-turn}
 
--- A terminal can make its step.
-module _ {E : Type 0} (state : E → DevState) (O : Origin) (s : State (machine O)) (es : List Entry) (r : Running E) (can : CanRun state O) (comes : ComesTo state O s es r) where
-  pub some-harts : 0 < r.board.layout.harts
-  some-harts = let Some : ℕ → Type 0 = λ n. 0 < n in subst Some comes.holds.harts can.harts
+-- the terminals of a board are four
 
-  pub can-be : (t : ℕ) → t < 4 → RegionsCanBe (terminal_at r t).terminal.plans
-  can-be t lt = let Can : List Planned → Type 0 = RegionsCanBe in subst Can (sym (comes.stands t lt).plans) can.regions
+pub four-items : (b : Board) → length b.terminals.items ≡ 4
+four-items b = omega (arith, b.four)
 
-  pub is-orderly : (t : ℕ) → t < 4 → IsOrderly (terminal_at r t).terminal
-  is-orderly t lt = (comes.stands t lt).orderly
+one-of : (xs : List TerminalCell) → length xs ≡ 4 → TerminalCell
+one-of [] four = absurd (omega arith)
+one-of (x ∷ xs) four = x
 
-  pub hold-some : (t : ℕ) → t < 4 → HoldSome state r.board (terminal_at r t)
-  hold-some t lt = record { origin = O; at = s; board_holds = comes.holds; is_at = is-at O s t (terminal_at r t) (comes.stands t lt) }
+-- some terminal of the board
+pub terminal_of : Board → TerminalCell
+terminal_of b = one-of b.terminals.items (four-items b)
 
-pub sound-boot : {E : Type 0} (state : E → DevState) (O : Origin) (boot : List Entry) (r : Running E) → CanRun state O → Boots state O boot r → IsSound r.board
-sound-boot state O boot r can b = can.sound.boot boot r.board b.part.runs b.goes.comes.whole b.goes.comes.areas b.goes.comes.holds
+-- the terminal at an index
+pub item-at : (b : Board) (t : ℕ) (d x : TerminalCell) → t < 4 → x ≡ slice_index_or b.terminals.items t x → at b t d ≡ x
+item-at b t d x lt is = get_or_default b.terminals.items t d x (let four = four-items b in omega arith) ∙ sym is
 
-pub sound-later : {E : Type 0} (state : E → DevState) (O : Origin) (boot made : List Entry) (r : Running E) → CanRun state O → IsBooted O boot → Goes state O (begun O boot) boot made r → IsSound r.board
-sound-later state O boot made r can b g = can.sound.later boot made r.board b.part.runs g.run g.comes.whole g.comes.areas g.comes.holds
+-- stamps rise
 
--- Stamps rise.
+pub stamp_at : List TerminalCell → ℕ → ℕ
+stamp_at [] t = 0
+stamp_at (x ∷ xs) zero = x.stamp
+stamp_at (x ∷ xs) (suc t) = stamp_at xs t
 
-pub stamp-rises : {E : Type 0} (state : E → DevState) (O : Origin) (s : State (machine O)) (es : List Entry) (r r' : Running E) (t : ℕ) → t < 4 → IsWhole state r'.board → ComesTo state O s es r
-    → MakesStep state r r' t → GREATEST_STAMP - (terminal_at r' t).stamp < GREATEST_STAMP - (terminal_at r t).stamp
-stamp-rises state O s es r r' t lt whole comes step =
-    let rises = event-rises state O s es r r' t lt whole comes step in
-    let is = step.event.stamp in
-    let bounded = step.event.bounded in
+stamp-is : (xs : List TerminalCell) (t : ℕ) (d : TerminalCell) → t < length xs → stamp_at xs t ≡ (slice_index_or xs t d).stamp
+unfolding stamp_at
+stamp-is [] t d lt = absurd (omega arith)
+stamp-is (x ∷ xs) zero d lt = refl
+stamp-is (x ∷ xs) (suc t) d lt = stamp-is xs t d (omega arith)
+
+stamp-of : (b : Board) (t : ℕ) (d : TerminalCell) → t < 4 → stamp_at b.terminals.items t ≡ (at b t d).stamp
+stamp-of b t d lt = stamp-is b.terminals.items t d (let four = four-items b in omega arith)
+
+rises : (files files' : FileCell) (x x' : TerminalCell) (e : Entry) → IsStep files files' x x' e → x.stamp < x'.stamp
+rises files files' x x' e s =
+    let stamp = s.stamp in
+    elim (part-of 0 files files' x.stamp e e.event.step s.files) [
+      | leaves untouched none h ↦ let next = h.next in omega arith
+      | takes touched one h ↦ let next = h.next in omega arith
+    ]
+
+own-rises : (b b' : Board) (t : ℕ) (e : Entry) → t < 4 → IsBoardStep b b' t e → stamp_at b.terminals.items t < stamp_at b'.terminals.items t
+own-rises b b' t e lt s =
+    let d = terminal_of b in
+    let old = stamp-of b t d lt in
+    let new = stamp-of b' t d lt in
+    let more = rises b.files b'.files (at b t d) (at b' t d) e (s.step d) in
     omega arith
 
--- How far all stamps are from the last one.
-abbrev pub distance : {E : Type 0} → Running E → ℕ → ℕ
-distance r t = GREATEST_STAMP - (terminal_at r t).stamp
+other-stays : (b b' : Board) (t u : ℕ) (e : Entry) → u < 4 → u ≢ t → IsBoardStep b b' t e → stamp_at b'.terminals.items u ≡ stamp_at b.terminals.items u
+other-stays b b' t u e lt apart s =
+    let d = terminal_of b in
+    stamp-of b' u d lt ∙ ap (λ (x : TerminalCell). x.stamp) (s.others u d apart) ∙ sym (stamp-of b u d lt)
 
-pub total : (ℕ → ℕ) → ℕ
-total f = f 0 + f 1 + f 2 + f 3
+bounded : (b : Board) (t : ℕ) → t < 4 → stamp_at b.terminals.items t ≤ GREATEST_STAMP
+bounded b t lt =
+    let d = terminal_of b in
+    let is = stamp-of b t d lt in
+    let most = (at b t d).stamp_bounded in
+    omega arith
 
-pub total-falls : (f g : ℕ → ℕ) (t : ℕ) → t < 4 → g t < f t → ((u : ℕ) → u ≢ t → g u ≡ f u) → total g < total f
+-- all four stamps
+pub total : List TerminalCell → ℕ
+total xs = stamp_at xs 0 + stamp_at xs 1 + stamp_at xs 2 + stamp_at xs 3
+
+pub boot-smaller : (b b' : Board) (e : Entry) → IsBoardStep b b' 0 e → GREATEST_STAMP - stamp_at b'.terminals.items 0 < GREATEST_STAMP - stamp_at b.terminals.items 0
+boot-smaller b b' e s =
+    let more = own-rises b b' 0 e (omega arith) s in
+    let most = bounded b' 0 (omega arith) in
+    omega arith
+
+pub rounds-smaller : (b b' : Board) (t : ℕ) (e : Entry) → t < 4 → IsBoardStep b b' t e → 4 * GREATEST_STAMP - total b'.terminals.items < 4 * GREATEST_STAMP - total b.terminals.items
 unfolding total
-total-falls f g zero lt less same = let s1 = same 1 (λ q. omega arith) in let s2 = same 2 (λ q. omega arith) in let s3 = same 3 (λ q. omega arith) in omega arith
-total-falls f g (suc zero) lt less same = let s0 = same 0 (λ q. omega arith) in let s2 = same 2 (λ q. omega arith) in let s3 = same 3 (λ q. omega arith) in omega arith
-total-falls f g (suc (suc zero)) lt less same = let s0 = same 0 (λ q. omega arith) in let s1 = same 1 (λ q. omega arith) in let s3 = same 3 (λ q. omega arith) in omega arith
-total-falls f g (suc (suc (suc zero))) lt less same = let s0 = same 0 (λ q. omega arith) in let s1 = same 1 (λ q. omega arith) in let s2 = same 2 (λ q. omega arith) in omega arith
-total-falls f g (suc (suc (suc (suc t)))) lt less same = absurd (omega arith)
+rounds-smaller b b' zero e lt s =
+    let more = own-rises b b' 0 e lt s in
+    let s1 = other-stays b b' 0 1 e (omega arith) (λ q. omega arith) s in
+    let s2 = other-stays b b' 0 2 e (omega arith) (λ q. omega arith) s in
+    let s3 = other-stays b b' 0 3 e (omega arith) (λ q. omega arith) s in
+    let m0 = bounded b' 0 (omega arith) in
+    let m1 = bounded b' 1 (omega arith) in
+    let m2 = bounded b' 2 (omega arith) in
+    let m3 = bounded b' 3 (omega arith) in
+    omega arith
+rounds-smaller b b' (suc zero) e lt s =
+    let more = own-rises b b' 1 e lt s in
+    let s0 = other-stays b b' 1 0 e (omega arith) (λ q. omega arith) s in
+    let s2 = other-stays b b' 1 2 e (omega arith) (λ q. omega arith) s in
+    let s3 = other-stays b b' 1 3 e (omega arith) (λ q. omega arith) s in
+    let m0 = bounded b' 0 (omega arith) in
+    let m1 = bounded b' 1 (omega arith) in
+    let m2 = bounded b' 2 (omega arith) in
+    let m3 = bounded b' 3 (omega arith) in
+    omega arith
+rounds-smaller b b' (suc (suc zero)) e lt s =
+    let more = own-rises b b' 2 e lt s in
+    let s0 = other-stays b b' 2 0 e (omega arith) (λ q. omega arith) s in
+    let s1 = other-stays b b' 2 1 e (omega arith) (λ q. omega arith) s in
+    let s3 = other-stays b b' 2 3 e (omega arith) (λ q. omega arith) s in
+    let m0 = bounded b' 0 (omega arith) in
+    let m1 = bounded b' 1 (omega arith) in
+    let m2 = bounded b' 2 (omega arith) in
+    let m3 = bounded b' 3 (omega arith) in
+    omega arith
+rounds-smaller b b' (suc (suc (suc zero))) e lt s =
+    let more = own-rises b b' 3 e lt s in
+    let s0 = other-stays b b' 3 0 e (omega arith) (λ q. omega arith) s in
+    let s1 = other-stays b b' 3 1 e (omega arith) (λ q. omega arith) s in
+    let s2 = other-stays b b' 3 2 e (omega arith) (λ q. omega arith) s in
+    let m0 = bounded b' 0 (omega arith) in
+    let m1 = bounded b' 1 (omega arith) in
+    let m2 = bounded b' 2 (omega arith) in
+    let m3 = bounded b' 3 (omega arith) in
+    omega arith
+rounds-smaller b b' (suc (suc (suc (suc t)))) e lt s = absurd (omega arith)
 
-pub stamps-rise : {E : Type 0} (state : E → DevState) (O : Origin) (s : State (machine O)) (es : List Entry) (r r' : Running E) (t : ℕ) → t < 4 → IsWhole state r'.board → ComesTo state O s es r
-    → MakesStep state r r' t → total (distance r') < total (distance r)
-stamps-rise state O s es r r' t lt whole comes step =
-    total-falls (distance r) (distance r') t lt (stamp-rises state O s es r r' t lt whole comes step) (λ u apart. ap (λ a. GREATEST_STAMP - a.stamp) (step.others u apart))
-
--- A step of the boot script leaves the terminal's own script.
+-- a step of the boot script leaves the terminal's own script
 
 open-some : (scripts : Scripts) (n : List ℕ × Scripts) → next_in scripts ≡ Some n → (x : List (List ℕ)) × (xs : Scripts) × (n.1 ≡ x ∷ xs)
 open-some [] n is = absurd (cc)
@@ -97,7 +156,7 @@ task-own (makes asked) x xs own r = refl
 task-own (goes line) x xs own r = refl
 task-own (tells line why) x xs own r = refl
 
--- What a session is at, by its line and by the next command of the boot script.
+-- what a session is at, by its line and by the next command of the boot script
 abbrev present_from : List Planned → Option LineState → Option (List ℕ × Scripts) → Session → Option Present
 present_from plans None next s = first_of plans (begun_boot next s.own)
 present_from plans (Some line) next s = Some (record { task = goes line; boot = s.boot; own = s.own })
@@ -116,102 +175,74 @@ made-own plans None (Some n) s r c some open' =
     let task = task_of plans n.0 (said n.0) in
     ap (λ (boot : Scripts). (with_script task (record { task = task; boot = boot; own = s.own }) r).own) o.2 ∙ task-own task o.0 o.1 s.own r
 
-session-own : (plans : List Planned) (s : Session) (r : Reply) (c : Carry) → (HasBooted s → ⊥) → (session_after plans s r c).own ≡ s.own
-session-own plans s r c not_end =
+own-stays : (plans : List Planned) (s : Session) (r : Reply) (c : Carry) → (HasBooted s → ⊥) → (session_after plans s r c).own ≡ s.own
+own-stays plans s r c not_end =
     ap (λ (p : Option Present). (made_at p s r c).own) (present-from plans s.line s)
     ∙ made-own plans s.line (next_in s.boot) s r c (λ line boot. not_end (record { line = line; boot = boot })) (open-some s.boot)
 
-own-stays : (t : TerminalState) (owed : List Step) (s : Step) (r : Reply) (c : Carry) → t.owed ≡ owed → (IsAtBootEnd t → ⊥) → (terminal_with t owed s r c).session.own ≡ t.session.own
-own-stays t [] s r c is not_end = session-own t.plans t.session r c (λ booted. not_end (record { owed = is; booted = booted }))
-own-stays t (due ∷ owed) s r c is not_end = refl
-
--- One step more of the boot script.
-pub boot-step : {E : Type 0} (state : E → DevState) (O : Origin) (boot : List Entry) (r r' : Running E) → IsWhole state r'.board → Boots state O boot r → (step : MakesStep state r r' 0)
-    → (IsAtBootEnd (terminal_at r 0).terminal → ⊥) → Boots state O (boot ++ step.event.made ∷ []) r'
-boot-step state O boot r r' whole b step not_end =
-    let lt : 0 < 4 = omega arith in
-    let e = step.event.made in
-    let t = (terminal_at r 0).terminal in
-    let more = goes-step state O (start O) [] boot r r' 0 lt whole b.goes step in
-    let by = actor-is state O (booted O boot) boot r r' 0 lt whole b.goes.comes step in
-    let before : (booted O boot first).value ≡ t = (b.goes.comes.stands 0 lt).value in
-    let after : (booted O (boot ++ e ∷ []) first).value ≡ (terminal_at r' 0).terminal = (more.comes.stands 0 lt).value in
-    let own : (terminal_after t e).session.own ≡ t.session.own = own-stays t t.owed e.event.step e.event.reply e.carry refl not_end in
+-- one step more of the boot script
+pub boot-step : (O : Origin) (made : List Entry) (b b' : Board) (e : Entry) → BootPart O made b → IsBoardStep b b' 0 e
+    → ((d : TerminalCell) → HasBooted (session_of (at b 0 d)) → ⊥) → BootPart O (made ++ e ∷ []) b'
+boot-step O made b b' e p s not_end =
+    let d = terminal_of b in
     record {
-      part = record {
-        alone = all-push (λ (x : Entry). x.event.actor ≡ Terminal 0) boot e b.part.alone by;
-        runs = more.run;
-        within = ap (λ (v : TerminalState). v.session.own) (after ∙ step.event.terminal) ∙ own ∙ ap (λ (v : TerminalState). v.session.own) (sym before) ∙ b.part.within;
-      };
-      goes = more;
-      others = λ u low apart. ap (λ a. a.stamp) (step.others u apart) ∙ b.others u low apart;
+      goes = goes-step O (start O) [] made b b' 0 e d (omega arith) p.goes s;
+      alone = all-push (λ (x : Entry). x.event.actor ≡ Terminal 0) made e p.alone ((s.step d).actor ∙ ap Terminal (p.goes.holds.numbers 0 d (omega arith)));
+      own = λ x. ap (λ (v : Session). v.own) ((s.step x).session O.opening.plans e.carry) ∙ own-stays O.opening.plans (session_of (at b 0 x)) e.event.reply e.carry (not_end x) ∙ p.own x;
     }
 
--- The boot script is stopped.
-pub boot-stops : {E : Type 0} (state : E → DevState) (O : Origin) (boot : List Entry) (r r' : Running E) (n stamp : ℕ) → IsWhole state r'.board → Boots state O boot r → n ≡ stamp
-    → StopsAt state r r' 0 stamp → (IsAtBootEnd (terminal_at r 0).terminal → ⊥) → BootEnds state O r' (Some n)
-boot-stops state O boot r r' n stamp whole b is stops not_end =
-    let same = same-terminals state r r' 0 stamp stops in
-    let AtEnd : ActorKept → Type 0 = λ a. IsAtBootEnd a.terminal in (
-      boot,
-      record {
-        part = b.part;
-        goes = goes-stopped state O (start O) [] boot r r' 0 stamp whole b.goes stops;
-        others = λ u lt apart. ap (λ a. a.stamp) (same u) ∙ b.others u lt apart;
-      },
-      λ end. not_end (subst AtEnd (same 0) end),
-      is ∙ stops.stopped.last,
-      stops-last state O (booted O boot) boot r r' 0 stamp (omega arith) b.goes.comes stops,
-    )
+-- a terminal whose boot script has not ended has not ended
+pub is-none : {A : Type 0} (o : Option A) → is_none o ≡ true → o ≡ None
+is-none None h = refl
+is-none (Some n) h = absurd (cc)
 
--- The rounds are stopped.
-pub rounds-stop : {E : Type 0} (state : E → DevState) (O : Origin) (boot made : List Entry) (r r' : Running E) (t n stamp : ℕ) → t < 4 → IsWhole state r'.board
-    → Goes state O (begun O boot) boot made r → n ≡ stamp → StopsAt state r r' t stamp → RoundsEnd state O boot r' (Some n)
-rounds-stop state O boot made r r' t n stamp lt whole went is stops = (
-  made,
-  goes-stopped state O (begun O boot) boot made r r' t stamp whole went stops,
-  is ∙ stops.stopped.last,
-  stops-last state O (state_after (machine O) (begun O boot) made) (boot ++ made) r r' t stamp lt went.comes stops,
-)
+pub and-both : (p q : Bool) → (p && q) ≡ true → (p ≡ true) × (q ≡ true)
+and-both true true h = (refl, refl)
+and-both true false h = absurd (cc)
+and-both false q h = absurd (cc)
 
--- A run ends as its rounds do.
-pub runs-out : {E : Type 0} (state : E → DevState) (O : Origin) (r : Running E) (spent : Option ℕ) → RunsOut state O r spent → RunEnds state O r spent
-runs-out state O r None out = out
-runs-out state O r (Some n) out = inr out
+pub not-ended : (s : Session) → (HasBooted s → ⊥) → has_ended s ≡ false
+not-ended s not_end =
+    let Goal : Bool → Type 0 = λ b. has_ended s ≡ b → b ≡ false in
+    elim (has_ended s) as Goal [
+      | true ↦ λ is.
+          let both = and-both (is_none s.line) (is_none (next_in s.boot) && is_none (next_in s.own)) is in
+          let scripts = and-both (is_none (next_in s.boot)) (is_none (next_in s.own)) both.1 in
+          absurd (not_end (record { line = is-none s.line both.0; boot = is-none (next_in s.boot) scripts.0 }))
+      | false ↦ λ is. refl
+    ] refl
 
--- The rounds.
+-- the rounds
 
-pub turn-left : {E : Type 0} (r : Running E) (from t : ℕ) → IsTurn r from (Some t) → (t < 4) × (IsOver r t → ⊥)
-turn-left r from t (inl first) = (first.within, first.left)
-turn-left r from t (inr both) = (both.1.within, both.1.left)
+pub open-not-ended : (b : Board) (from t : ℕ) → IsTurn b from (Some t) → (t < 4) × ((d : TerminalCell) → has_ended (session_of (at b t d)) ≡ false)
+open-not-ended b from t (inl o) = (o.within, o.open_here)
+open-not-ended b from t (inr both) = (both.1.within, both.1.open_here)
 
--- What the rounds keep.
-pub record RoundsGo {E : Type 0} (state : E → DevState) (O : Origin) (boot made : List Entry) (from : ℕ) (r : Running E) : Type 0 where
-  pub goes : Goes state O (begun O boot) boot made r
-  pub took : TookTurns O (begun O boot) [] made (last_terminals (4 - from))
+-- what the rounds keep
+pub record RoundsGo (O : Origin) (s : State (machine O)) (before made : List Entry) (from : ℕ) (b : Board) : Type 0 where
+  pub goes : Goes O s before made b
+  pub took : TookTurns O s [] made (last_terminals (4 - from))
 
-pub rounds-init : {E : Type 0} (state : E → DevState) (O : Origin) (boot : List Entry) (r : Running E) → O.opening.turns ≡ 0 → Goes state O (begun O boot) boot [] r → RoundsGo state O boot [] 0 r
-rounds-init state O boot r turns went = record { goes = went; took = round-begins state O (begun O boot) (boot ++ []) r turns went.comes }
+pub rounds-init : (O : Origin) (s : State (machine O)) (before : List Entry) (b : Board) → O.opening.turns ≡ 0 → Goes O s before [] b → RoundsGo O s before [] 0 b
+rounds-init O s before b turns went = record { goes = went; took = round-begins O s b (terminal_of b) turns went.holds }
 
-pub rounds-step : {E : Type 0} (state : E → DevState) (O : Origin) (boot made : List Entry) (from t : ℕ) (r r' : Running E) → from ≤ 4 → O.opening.turns ≡ 0 → IsWhole state r'.board
-    → RoundsGo state O boot made from r → IsTurn r from (Some t) → (step : MakesStep state r r' t) → RoundsGo state O boot (made ++ step.event.made ∷ []) (t + 1) r'
-rounds-step state O boot made from t r r' le turns whole go turn step =
-    let below = (turn-left r from t turn).0 in
-    let e = step.event.made in
-    let s = begun O boot in
+pub rounds-step : (O : Origin) (s : State (machine O)) (before made : List Entry) (from t : ℕ) (b b' : Board) (e : Entry) → from ≤ 4 → O.opening.turns ≡ 0 → RoundsGo O s before made from b
+    → IsTurn b from (Some t) → IsBoardStep b b' t e → RoundsGo O s before (made ++ e ∷ []) (t + 1) b'
+rounds-step O s before made from t b b' e le turns go turn made_step =
+    let d = terminal_of b in
+    let below = (open-not-ended b from t turn).0 in
     let here = state_after (machine O) s made in
-    let taken = turn-taken state O here (boot ++ made) r turns go.goes.comes from t le turn in
-    let by = actor-is state O here (boot ++ made) r r' t below whole go.goes.comes step in
+    let taken = turn-taken O here b d turns go.goes.holds from t le turn in
+    let actor_is = (made_step.step d).actor ∙ ap Terminal (go.goes.holds.numbers t d below) in
     let left : 3 - t ≡ 4 - (t + 1) = omega arith in
     record {
-      goes = goes-step state O s boot made r r' t below whole go.goes step;
+      goes = goes-step O s before made b b' t e d below go.goes made_step;
       took = turns-push O s [] (last_terminals (4 - from)) (last_terminals (4 - (t + 1))) made e go.took
-          (taken ∙ ap (λ a. Some (a, last_terminals (3 - t))) (sym by) ∙ ap (λ n. Some (e.event.actor, last_terminals n)) left);
+          (taken ∙ ap (λ a. Some (a, last_terminals (3 - t))) (sym actor_is) ∙ ap (λ n. Some (e.event.actor, last_terminals n)) left);
     }
 
-pub rounds-over : {E : Type 0} (state : E → DevState) (O : Origin) (boot made : List Entry) (from : ℕ) (r : Running E) → from ≤ 4 → O.opening.turns ≡ 0
-    → RoundsGo state O boot made from r → IsTurn r from None → RoundsEnd state O boot r None
-rounds-over state O boot made from r le turns go turn =
-    let s = begun O boot in
+pub rounds-over : (O : Origin) (s : State (machine O)) (before made : List Entry) (from : ℕ) (b : Board) → from ≤ 4 → O.opening.turns ≡ 0 → RoundsGo O s before made from b
+    → IsTurn b from None → RoundsEnd O s before made b None
+rounds-over O s before made from b le turns go turn =
     let here = state_after (machine O) s made in
-    (made, go.goes, turns-end O s [] (last_terminals (4 - from)) made go.took (no-turn state O here (boot ++ made) r turns go.goes.comes from le turn), turn.1)
+    (go.goes, turns-end O s [] (last_terminals (4 - from)) made go.took (no-turn O here b (terminal_of b) turns go.goes.holds from le turn), turn.1)

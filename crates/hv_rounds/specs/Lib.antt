@@ -1,10 +1,8 @@
--- Runs of a board's terminals in rounds.
-pub mod Running
-pub mod Turns
-pub mod Goes
-pub mod Good
-pub mod Starting
-pub mod Sound
+pub mod Stack
+pub mod Cells
+pub mod Answer
+pub mod Step
+pub mod Board
 pub mod Phase
 pub mod Outcome
 pub mod Close

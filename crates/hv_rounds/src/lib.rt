@@ -1,14 +1,20 @@
-//! Runs of a board's terminals: the boot script, and then the steps of all terminals in rounds.
-//!
-//! Terms: a round goes through the actors by their places, and each that is not at its end makes one
-//! step; a run is stopped by a step whose greatest stamp is the last one.
+//! Terminals that run their scripts in rounds over one file tree.
 #![tactic(auto)]
 
-mod closing;
+mod board;
+mod files;
 mod open;
 mod phases;
-mod running;
-mod turns;
+mod script;
+mod scripts;
+mod show;
+mod split;
+mod step;
+mod stop;
+mod terminal;
+#[cfg(test)]
+mod tests;
+mod turn;
 mod whole;
 
 pub use whole::{Outcome, run};

@@ -1,69 +1,66 @@
 //! The two phases of a run: the boot script, and the rounds.
-ghost use Rattle.std.specs.Prelude.{List, IfOk};
+ghost use Rattle.std.specs.Prelude.{[], IfOk};
+ghost use Rattle.hv_machine.specs.Machine.{State};
 ghost use Rattle.hv_model.specs.Origin.{Origin};
-ghost use Rattle.hv_model.specs.declared.entry.Entry.{Entry};
-ghost use Rattle.hv_rounds.specs.Phase.{BootEnds, CanBoot, CanGoOn, RoundsEnd, RunEnds};
+ghost use Rattle.hv_model.specs.Rules.{machine};
+ghost use Rattle.hv_model.specs.declared.entry.Entry.{Entry as EntryValue};
+ghost use Rattle.std.specs.Prelude.{List, ◌≡◌};
+ghost use Rattle.hv_rounds.specs.Board.{Goes};
+ghost use Rattle.hv_rounds.specs.Phase.{BootPart, BootEnds, RoundsEnd};
 
-use crate::running::Running;
-use hv_board::Stop;
-use hv_emu::Emulator;
+use crate::board::Board;
+use crate::stop::Stop;
+use hv_model::Entry;
 use std::alloc::{AllocError, Global};
 
-/// Terminal 0 makes its boot script, and then the terminals make their steps in rounds. Gives the last
-/// stamp where a step found it.
-pub fn run_phases<E: Emulator>(
-    alloc: Global,
-    running: &mut Running<'_, E>,
-) -> Result<Option<u64>, AllocError>
-    requires { (O : Origin) × CanBoot E.state O running.old }
-    ensures { IfOk result (λ spent. (O : Origin) → CanBoot E.state O running.old
-        → RunEnds E.state O running.new spent) }
-{
-    match run_boot(alloc, running)? {
-        Some(stamp) => Ok(Some(stamp)),
-        None => {
-            running.begin_together();
-            run_rounds(alloc, running)
-        }
-    }
+/// What a phase made, and the last stamp where it was stopped by it.
+#[derive(Drop)]
+pub struct Phase {
+    pub made: Vec<Entry>,
+    pub spent: Option<u64>,
 }
 
-// Terminal 0 makes its boot script.
-fn run_boot<E: Emulator>(
-    alloc: Global,
-    running: &mut Running<'_, E>,
-) -> Result<Option<u64>, AllocError>
-    requires { (O : Origin) × CanBoot E.state O running.old }
-    ensures { IfOk result (λ spent. (O : Origin) → CanBoot E.state O running.old
-        → BootEnds E.state O running.new spent) }
+/// Terminal 0 makes its boot script.
+pub fn run_boot(alloc: Global, board: &mut Board) -> Result<Phase, AllocError>
+    ensures { IfOk result (λ p. (O : Origin) → BootPart O [] board.old
+        → BootEnds O p.made.items board.new p.spent) }
 {
-    'boot: while !running.is_booted() {
-        match running.step(alloc, 0) {
-            Ok(()) => {}
-            Err(Stop::Spent(stamp)) => return Ok(Some(stamp)),
+    let mut made = Vec::new(alloc);
+    'boot: while !board.terminals[0].is_booted() {
+        match board.step(alloc, 0) {
+            Ok(entry) => made.push(entry)?,
+            Err(Stop::Spent(stamp)) => {
+                return Ok(Phase {
+                    made,
+                    spent: Some(stamp),
+                });
+            }
             Err(Stop::Memory(error)) => return Err(error),
         }
     }
-    Ok(None)
+    Ok(Phase { made, spent: None })
 }
 
-// The terminals make their steps in rounds.
-fn run_rounds<E: Emulator>(
-    alloc: Global,
-    running: &mut Running<'_, E>,
-) -> Result<Option<u64>, AllocError>
-    requires { (O : Origin) × (boot : List Entry) × CanGoOn E.state O boot running.old }
-    ensures { IfOk result (λ spent. (O : Origin) (boot : List Entry)
-        → CanGoOn E.state O boot running.old → RoundsEnd E.state O boot running.new spent) }
+/// The terminals make their steps in rounds.
+pub fn run_rounds(alloc: Global, board: &mut Board) -> Result<Phase, AllocError>
+    ensures { IfOk result (λ p. (O : Origin) (s : State (machine O)) (before : List EntryValue)
+        → O.opening.turns ≡ 0 → Goes O s before [] board.old
+        → RoundsEnd O s before p.made.items board.new p.spent) }
 {
+    let mut made = Vec::new(alloc);
     let mut from = 0;
-    'rounds: while let Some(place) = running.next_turn(from) {
-        match running.step(alloc, place) {
-            Ok(()) => {}
-            Err(Stop::Spent(stamp)) => return Ok(Some(stamp)),
+    'rounds: while let Some(number) = board.next_turn(from) {
+        match board.step(alloc, number) {
+            Ok(entry) => made.push(entry)?,
+            Err(Stop::Spent(stamp)) => {
+                return Ok(Phase {
+                    made,
+                    spent: Some(stamp),
+                });
+            }
             Err(Stop::Memory(error)) => return Err(error),
         }
-        from = place + 1;
+        from = number + 1;
     }
-    Ok(None)
+    Ok(Phase { made, spent: None })
 }

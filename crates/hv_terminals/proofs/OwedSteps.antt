@@ -16,17 +16,9 @@ use Rattle.hv_step.specs.declared.step.Step.{Step}
 use Rattle.hv_step.specs.declared.step.Step.TheVariants as step
 use Rattle.hv_text.specs.declared.limits.TheConstants.{GUEST_REGIONS, SLOTS}
 use Rattle.hv_words.specs.Said.{said}
-use Rattle.hv_words.specs.declared.change.Change as words
-use Rattle.hv_words.specs.declared.change.Change.TheVariants as change
 use Rattle.hv_words.specs.declared.command.Command.{Command}
 use Rattle.hv_words.specs.declared.command.Command.TheVariants as command
-use Rattle.hv_words.specs.declared.guest_command.GuestCommand.{GuestCommand}
-use Rattle.hv_words.specs.declared.guest_command.GuestCommand.TheVariants as guests
 use Rattle.hv_words.specs.declared.refusal.WordsRefusal.{WordsRefusal}
-use Rattle.hv_words.specs.declared.serial_command.SerialCommand.{SerialCommand}
-use Rattle.hv_words.specs.declared.serial_command.SerialCommand.TheVariants as serial
-use Rattle.hv_words.specs.declared.vcpu_command.VcpuCommand.{VcpuCommand}
-use Rattle.hv_words.specs.declared.vcpu_command.VcpuCommand.TheVariants as vcpus
 use Rattle.hv_rules.specs.Carry.{Carry}
 use Rattle.hv_rules.specs.Line as line
 use Rattle.hv_rules.specs.Line.{Ask, Change, LineState, first, has_device, left, step_for}
@@ -36,7 +28,7 @@ use Rattle.hv_model.specs.Plans.{Planned, region_at, regions_of}
 use Rattle.hv_model.specs.Session.{Begun, Present, Session, begun, first_of, present, present_with, task_for, task_of}
 use Rattle.hv_model.specs.Shown.{showing, shown_in}
 use Rattle.hv_model.specs.Terminal.{FitsPresent, FitsTask, IsNextStep, TerminalAgrees, TerminalState, children_owe, if_made, owed_after, row_owes, terminal_after, terminal_with}
-use Rattle.hv_model.specs.Work.{Work, guest_work, line_of, once, serial_work, several, vcpu_step, vcpu_work, work_of}
+use Rattle.hv_model.specs.Work.{Work, line_of, once, several, work_of}
 use Rattle.hv_programs.specs.Line.{IsGiven}
 use Rattle.hv_programs.specs.Owed.{IsOwed, IsParent, IsSampleOwed}
 use Rattle.hv_programs.proofs.OwedLemmas.{all-owed}
@@ -143,27 +135,8 @@ shown-samples given (step.Feed a) s is = absurd (cc is)
 shown-samples given (step.Output a) s is = absurd (cc is)
 shown-samples given _ s is = is
 
-guest-samples : (c : GuestCommand) (s : Sample) → guest_work c ≡ once (step.Sample s) → ⊥
-guest-samples guests.List s is = cc is
-guest-samples _ s is = cc is
-
-vcpu-samples : (c : words.Change) (number : ℕ) (s : Sample) → vcpu_step c number ≡ step.Sample s → ⊥
-vcpu-samples change.Kick number s is = cc is
-vcpu-samples _ number s is = cc is
-
-vcpus-samples : (c : VcpuCommand) (s : Sample) → vcpu_work c ≡ once (step.Sample s) → ⊥
-vcpus-samples vcpus.List s is = cc is
-vcpus-samples (vcpus.Change c number) s is = vcpu-samples c number s (cc is)
-vcpus-samples (vcpus.Dump number) s is = cc is
-
-serial-samples : (c : SerialCommand) (s : Sample) → serial_work c ≡ once (step.Sample s) → ⊥
-serial-samples (serial.Send name region text) s is = cc is
-serial-samples (serial.Dump name region) s is = cc is
-
 work-samples : (c : Command) (s : Sample) → work_of c ≡ once (step.Sample s) → ⊥
-work-samples (command.Guest c) s is = guest-samples c s is
-work-samples (command.Vcpu c) s is = vcpus-samples c s is
-work-samples (command.Serial c) s is = serial-samples c s is
+work-samples (command.TermRest count) s is = cc is
 work-samples _ s is = cc is
 
 work-fits :

@@ -16,16 +16,10 @@ use Rattle.hv_region.specs.declared.plan.VcpuPlan.{VcpuPlan}
 use Rattle.hv_step.specs.declared.step.Step.{Step}
 use Rattle.hv_step.specs.declared.step.Step.TheVariants as step
 use Rattle.hv_text.specs.declared.limits.TheConstants.{GUEST_REGIONS, GUEST_VCPUS, SLOTS, VCPUS}
-use Rattle.hv_words.specs.Arguments.{AnyPath, Argument, FitAll, Kind, NamedPath, NumberGiven, PathGiven, SomeText, TextGiven, VcpuNumber}
-use Rattle.hv_words.specs.Commands.{Gives}
+use Rattle.hv_words.specs.Commands.{AnyPath, Argument, FitAll, Gives, Kind, NamedPath, PathGiven, SomeText, TextGiven}
 use Rattle.hv_words.specs.Said.{said}
 use Rattle.hv_words.specs.declared.command.Command.{Command}
 use Rattle.hv_words.specs.declared.command.Command.TheVariants as command
-use Rattle.hv_words.specs.declared.change.Change as words
-use Rattle.hv_words.specs.declared.change.Change.TheVariants as change
-use Rattle.hv_words.specs.declared.guest_command.GuestCommand.TheVariants as guests
-use Rattle.hv_words.specs.declared.serial_command.SerialCommand.TheVariants as serial
-use Rattle.hv_words.specs.declared.vcpu_command.VcpuCommand.TheVariants as vcpus
 use Rattle.hv_words.specs.declared.refusal.WordsRefusal.{WordsRefusal}
 use Rattle.hv_rules.specs.Body.{index_of}
 use Rattle.hv_rules.specs.Line as line
@@ -34,7 +28,7 @@ use Rattle.hv_model.specs.Plans.{Planned, plan_of, region_at, region_of, regions
 use Rattle.hv_model.specs.Session.{Begun, Session, begun, first_of, makes, present_with, task_for, task_of, tells}
 use Rattle.hv_model.specs.Shown.{showing}
 use Rattle.hv_model.specs.Terminal.{TerminalState, vcpu_given}
-use Rattle.hv_model.specs.Work.{Work, line_of, once, plan_for, several, vcpu_step, work_of}
+use Rattle.hv_model.specs.Work.{Work, line_of, once, plan_for, several, work_of}
 use Rattle.hv_programs.specs.Line.{IsAsk, IsGiven, IsGuest}
 use Rattle.hv_programs.specs.Owed.{IsOwed}
 use Rattle.hv_terminals.specs.Adding.{AddsItsVcpusIf, GivesItsVcpu, IsAskWithin, IsVcpuGiven, LineAddsItsVcpus}
@@ -106,10 +100,12 @@ vcpu-given vcpus number all within =
     past [] i within none = absurd (omega (arith, within))
     past (x ∷ xs) zero within none = cc none
     past (x ∷ xs) (suc i) within none = past xs i (omega (arith, within)) none
+
     All-at : (P : VcpuPlan → Type 0) (xs : List VcpuPlan) (i : ℕ) (x : VcpuPlan) → All P xs → slice_get xs i ≡ Some x → P x
     All-at P [] i x all is = absurd (cc is)
     All-at P (y ∷ xs) zero x all is = subst P (cc is) (All-head P y xs all)
     All-at P (y ∷ xs) (suc i) x all is = All-at P xs i x (All-tail P y xs all) is
+
     vcpu-in : (plan : Option VcpuPlan) → ((p : VcpuPlan) → plan ≡ Some p → IsVcpuPlan p) → (plan ≡ None → ⊥) → IsVcpuGiven (option_map (λ p. (index_of number, p)) plan)
     vcpu-in None good some = some refl
     vcpu-in (Some p) good some = (mod_below (number - 1) GUEST_VCPUS (omega arith), good p refl)
@@ -270,47 +266,21 @@ second-path : (words : List (List ℕ)) (first path : List (List ℕ)) → FitAl
 second-path [] first path fit = absurd fit
 second-path (word ∷ words) first path fit = named-path [] words path [] fit.1
 
-vcpu-number : (words : List (List ℕ)) (number : ℕ) → FitAll (VcpuNumber ∷ []) words (NumberGiven number ∷ []) → number < VCPUS
-vcpu-number [] number fit = absurd fit
-vcpu-number (word ∷ words) number fit = fit.0.1
-
-vcpu-ready : (c : words.Change) (number : ℕ) → number < VCPUS → IsReadyOnce (vcpu_step c number)
-vcpu-ready change.Kick number below = record { made = λ given is. below; own = refl; adds = λ h. tt }
-vcpu-ready change.Resume number below = record { made = λ given is. below; own = refl; adds = λ h. tt }
-vcpu-ready change.Pause number below = record { made = λ given is. below; own = refl; adds = λ h. tt }
-vcpu-ready change.Halt number below = record { made = λ given is. below; own = refl; adds = λ h. tt }
-vcpu-ready change.Reset number below = record { made = λ given is. below; own = refl; adds = λ h. tt }
-
 read-ready : (text : List ℕ) (c : Command) → Gives text c → IsReadyWork (work_of c)
 read-ready text (command.VfsMkdir path) gives =
-    let some : 0 < length path = named-path [] gives.begins.rest path [] gives.fit in record { made = λ given is. some; own = refl; adds = λ h. tt }
+    let some : 0 < length path = named-path [] gives.arguments path [] gives.fit in record { made = λ given is. some; own = refl; adds = λ h. tt }
 read-ready text (command.VfsRm path) gives =
-    let some : 0 < length path = named-path [] gives.begins.rest path [] gives.fit in record { made = λ given is. some; own = refl; adds = λ h. tt }
+    let some : 0 < length path = named-path [] gives.arguments path [] gives.fit in record { made = λ given is. some; own = refl; adds = λ h. tt }
 read-ready text (command.VfsWrite path bytes) gives =
-    let some : 0 < length path = named-path (SomeText ∷ []) gives.begins.rest path (TextGiven bytes ∷ []) gives.fit in
+    let some : 0 < length path = named-path (SomeText ∷ []) gives.arguments path (TextGiven bytes ∷ []) gives.fit in
     record { made = λ given is. some; own = refl; adds = λ h. tt }
 read-ready text (command.VfsAsm source target) gives =
-    let some : 0 < length target = second-path gives.begins.rest source target gives.fit in record { made = λ given is. some; own = refl; adds = λ h. tt }
+    let some : 0 < length target = second-path gives.arguments source target gives.fit in record { made = λ given is. some; own = refl; adds = λ h. tt }
 read-ready text (command.TermRest count) gives = tt
 read-ready text (command.VfsLs path) gives = record { made = λ given is. tt; own = refl; adds = λ h. tt }
 read-ready text (command.VfsCat path) gives = record { made = λ given is. tt; own = refl; adds = λ h. tt }
 read-ready text (command.VfsDts path) gives = record { made = λ given is. tt; own = refl; adds = λ h. tt }
 read-ready text (command.VfsRun path) gives = record { made = λ given is. tt; own = refl; adds = λ h. tt }
-read-ready text (command.VfsGuestLoad name path address) gives = record { made = λ given is. is; own = refl; adds = λ h. tt }
-read-ready text (command.Guest guests.List) gives = record { made = λ given is. tt; own = refl; adds = λ h. tt }
-read-ready text (command.Guest (guests.Create name)) gives = tt
-read-ready text (command.Guest (guests.Destroy name)) gives = tt
-read-ready text (command.Guest (guests.Change c name)) gives = tt
-read-ready text (command.Guest (guests.RegionAdd name region)) gives = record { made = λ given is. is; own = refl; adds = λ h. tt }
-read-ready text (command.Guest (guests.RegionDel name region)) gives = record { made = λ given is. is; own = refl; adds = λ h. tt }
-read-ready text (command.Guest (guests.Regions name)) gives = record { made = λ given is. is; own = refl; adds = λ h. tt }
-read-ready text (command.Guest (guests.Mem name address count)) gives = record { made = λ given is. is; own = refl; adds = λ h. tt }
-read-ready text (command.Vcpu vcpus.List) gives = tt
-read-ready text (command.Vcpu (vcpus.Change c number)) gives = vcpu-ready c number (vcpu-number gives.begins.rest number gives.fit)
-read-ready text (command.Vcpu (vcpus.Dump number)) gives =
-    let below : number < VCPUS = vcpu-number gives.begins.rest number gives.fit in record { made = λ given is. below; own = refl; adds = λ h. tt }
-read-ready text (command.Serial (serial.Send name region bytes)) gives = record { made = λ given is. is; own = refl; adds = λ h. tt }
-read-ready text (command.Serial (serial.Dump name region)) gives = record { made = λ given is. is; own = refl; adds = λ h. tt }
 
 hands-shown : (plans : List Planned) (guest : List ℕ) (room : Option ℕ) (s : Step) → handing_for plans guest room s ≡ handing_for plans guest room (showing None s)
 hands-shown plans guest room (step.Bad s) = refl
@@ -336,6 +306,7 @@ module _ (plans : List Planned) (rules : KeepRules plans) (due : Due) (room : Op
       new-line : (asked : Asked) (plan : Option GuestPlan) → IsGuest (begun_for asked plan).guest
       new-line asked None = tt
       new-line asked (Some plan) = tt
+
       line-next :
           (asked : Asked) (plan : Option GuestPlan)
           → IfSome (line.first (left (begun_for asked plan).place)) (IsAskWithin (length (vcpus_of plans (guest_name asked))))

@@ -66,18 +66,6 @@ due-of-first plans lines (Some b) text depth due is deep found =
     subst (λ (t : List ℕ). IsDueOf plans (room_for (begun_depth (Some b)) lines) (task_of plans t (said t)) due) same
     (subst (λ (n : ℕ). IsDueOf plans (room_for n lines) (task_of plans text (said text)) due) deep found)
 
--- what is begun with the step of a command
-begins-of-first : (plans : List Planned) (next : Option Begun) (text : List ℕ) → begun_line next ≡ Some text → begins_of (task_of plans text (said text)) ≡ begins_present None (first_of plans next)
-begins-of-first plans None text is = absurd (cc is)
-begins-of-first plans (Some b) text is =
-    let same : text ≡ b.line = cc is in
-    ap (λ (t : List ℕ). begins_of (task_of plans t (said t))) same
-
-pub begins-of-begun : (plans : List Planned) (s : Session) (text : List ℕ) → s.line ≡ None → begun_line (begun s) ≡ Some text → begins_of (task_of plans text (said text)) ≡ begins_at plans s
-begins-of-begun plans s text none is =
-    begins-of-first plans (begun s) text is
-    ∙ ap (λ (line : Option LineState). begins_present line (present_with plans line s)) (sym none)
-
 pub due-of-begun :
     (plans : List Planned) (s : Session) (text : List ℕ) (depth : ℕ) (due : Due)
     → s.line ≡ None → begun_line (begun s) ≡ Some text → depth ≡ begun_depth (begun s)

@@ -9,8 +9,7 @@ use Rattle.hv_step.specs.declared.step.Step.TheVariants as step
 use Rattle.hv_rules.specs.Line as line
 use Rattle.hv_rules.specs.Line.{Ask, Asked, Change, LineState, begun_for, each, first, left, next_step, step_for, step_of, steps_of}
 use Rattle.hv_model.specs.Shown.{showing}
-use Rattle.hv_words.specs.Arguments.{FitAll, NumberGiven, RestCount}
-use Rattle.hv_words.specs.Commands.{Gives}
+use Rattle.hv_words.specs.Commands.{FitAll, Gives, NumberGiven, RestCount}
 use Rattle.hv_words.specs.declared.command.Command.{Command}
 use Rattle.hv_words.specs.declared.command.Command.TheVariants as command
 use Rattle.hv_terminals.specs.Due.{guest_shown, shown_at, vcpu_shown}
@@ -98,5 +97,5 @@ fit-rests (word ∷ words) count fit = (fit.0.1, fit.0.2)
 
 -- a command that a line gives is one that was read
 pub read_is : (text : List ℕ) (c : Command) → Gives text c → IsRead c
-read_is text (command.TermRest count) gives = fit-rests gives.begins.rest count gives.fit
+read_is text (command.TermRest count) gives = fit-rests gives.arguments count gives.fit
 read_is text _ gives = tt

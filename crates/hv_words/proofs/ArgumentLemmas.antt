@@ -2,7 +2,8 @@
 use Rattle.std.proofs.Common.{◌≡◌, ℕ, ◌+◌, List, ◌∷◌, sym, subst, inr}
 use Rattle.hv_words.specs.declared.refusal.WordsRefusal.{WordsRefusal}
 use Rattle.hv_words.specs.declared.refusal.WordsRefusal.TheVariants as refusal
-use Rattle.hv_words.specs.Arguments.{Kind, AnyPath, NamedPath, Argument, PathGiven, TextGiven, NumberGiven, WordGiven, Fits, IsRefusedAt, AreRefusedFrom}
+use Rattle.hv_words.specs.Commands.{Kind, AnyPath, NamedPath, Argument, PathGiven, TextGiven, NumberGiven, WordGiven, Fits}
+use Rattle.hv_words.specs.Arguments.{IsRefusedAt, AreRefusedFrom}
 
 -- the misfit is a later word
 later_misfit : (k : Kind) (ks : List Kind) (word : List ℕ) (rest : List (List ℕ)) (at : ℕ) (a : Argument) (e : WordsRefusal) → Fits k word a → AreRefusedFrom ks rest (at + 1) e → AreRefusedFrom (k ∷ ks) (word ∷ rest) at e

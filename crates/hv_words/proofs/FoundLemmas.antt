@@ -19,10 +19,10 @@ use Rattle.hv_text.specs.Path.{IsNameByte, IsName, ArePathNames, slashed, path_t
 use Rattle.hv_text.proofs.Names.{name_free}
 use Rattle.hv_words.specs.Text.{Spells, SpellsAll, IsText}
 use Rattle.hv_words.specs.Spelled.{BeginsWithByte, digit_pair, escaped, spelled_front}
-use Rattle.hv_words.specs.Arguments.{Kind, AnyPath, NamedPath, SomeText, RestCount, SomeWord, VcpuNumber, AnyAddress, ByteCount, Argument, PathGiven, TextGiven, NumberGiven, WordGiven, IsCommandPath, Fits, FitAll, IsMisfit}
-use Rattle.hv_words.specs.Words.{is_word, IsPrintable}
-use Rattle.hv_words.specs.Found.{where_passes, is_name_byte, is_name, path_of_parts, path_of, command_path, onto_rest, bytes_of, text_of, number_between, argument_of, onto_arguments, arguments_in, is_printable}
-use Rattle.hv_words.proofs.Contents.{Content, argument_with, content_of}
+use Rattle.hv_words.specs.Commands.{Kind, AnyPath, NamedPath, SomeText, RestCount, SomeWord, VcpuNumber, AnyAddress, ByteCount, Argument, PathGiven, TextGiven, NumberGiven, WordGiven, IsCommandPath, Fits, FitAll, IsMisfit, IsPrintable}
+use Rattle.hv_words.specs.Rows.{is_word}
+use Rattle.hv_words.specs.Said.{where_passes, is_name_byte, is_name, path_of_parts, path_of, command_path, onto_rest, bytes_of, text_of, number_between, argument_of, onto_arguments, arguments_in, is_printable}
+use Rattle.hv_words.proofs.Unambiguous.{Content, argument_with, content_of}
 use Rattle.hv_words.proofs.TextLemmas.{spelled_is, byte_is_some}
 
 -- a function finds a value exactly where a fact holds of it

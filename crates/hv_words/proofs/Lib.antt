@@ -2,8 +2,7 @@ pub mod WordLemmas
 pub mod ScriptLemmas
 pub mod ArgumentLemmas
 pub mod TextLemmas
-pub mod Contents
+pub mod Unambiguous
 pub mod PrintLemmas
 pub mod FoundLemmas
-pub mod TableLemmas
-pub mod RowLemmas
+pub mod SaidLemmas

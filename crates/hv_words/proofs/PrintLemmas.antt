@@ -1,4 +1,4 @@
--- Printed arguments are read back.
+-- A printed command is read back.
 use Rattle.std.proofs.Common.{◌≡◌, ◌≢◌, ℕ, ◌+◌, ◌/◌, ◌%◌, ◌^◌, ◌<◌, ◌≤◌, Bool, cond, true, false, eqb, List, [], ◌∷◌, ◌++◌, length, refl, sym, ap, subst, ◌∙◌, inl, inr, arith, length-append, drop, ◌&&◌, filter, not, map, eq-eqb, ltb}
 use Rattle.std.specs.Prelude.{Ok, Err}
 use Rattle.std.specs.Str.Parse.{digits_value}
@@ -18,11 +18,12 @@ use Rattle.hv_text.specs.Path.{IsNameByte, ArePathNames, slashed, path_text}
 use Rattle.hv_text.specs.declared.number.NumberRefusal.TheVariants.{NotANumber, TooLarge}
 use Rattle.hv_text.specs.Number.{digits_front, number_in, number_of}
 use Rattle.hv_text.proofs.Numbers.{number_of-decimal}
-use Rattle.hv_words.specs.Words.{is_empty, onto_first, pieces, words, IsPrintable}
+use Rattle.hv_words.specs.declared.command.Command.{Command}
+use Rattle.hv_words.specs.Words.{is_empty, onto_first, pieces, words}
 use Rattle.hv_words.specs.Text.{Spells, SpellsAll}
-use Rattle.hv_words.specs.Arguments.{Kind, AnyPath, NamedPath, SomeText, RestCount, SomeWord, VcpuNumber, AnyAddress, ByteCount, Argument, NumberGiven, Fits, FitAll}
-use Rattle.hv_words.specs.Print.{byte_text, argument_text}
-use Rattle.hv_words.proofs.Contents.{Content, argument_with, content_of}
+use Rattle.hv_words.specs.Commands.{Kind, AnyPath, NamedPath, SomeText, RestCount, SomeWord, VcpuNumber, AnyAddress, ByteCount, Argument, NumberGiven, Fits, FitAll, row_of, arguments_of, IsPrintable, Gives}
+use Rattle.hv_words.specs.Print.{byte_text, argument_text, command_text}
+use Rattle.hv_words.proofs.Unambiguous.{Content, argument_with, content_of}
 use Rattle.hv_words.proofs.WordLemmas.{words-space, first_word}
 
 -- a byte is a graphic character
@@ -282,3 +283,9 @@ printed line family name ws kinds given printable is fit =
       words_are = words_joined (family ∷ name ∷ texts) visible;
       fit = back.fits;
     }
+
+-- what some line gives is given by its printed line
+pub gives_back : (line : List ℕ) (c : Command) → Gives line c → Gives (command_text c) c
+gives_back line c h =
+    let back = printed line (row_of c).family (row_of c).name h.arguments (row_of c).kinds (arguments_of c) h.printable h.words_are h.fit in
+    record { printable = back.printable; arguments = map argument_text (arguments_of c); words_are = back.words_are; fit = back.fit }

@@ -5,7 +5,8 @@ use Rattle.std.specs.Char.{digit_value}
 use Rattle.std.proofs.lemmas.Bool.{and_from, lt-ltb}
 use Rattle.std.proofs.lemmas.List.{append-nil, nil_from_length}
 use Rattle.hv_words.specs.Text.{Spells, SpellsAll, IsText}
-use Rattle.hv_words.specs.Arguments.{SomeText, PathGiven, TextGiven, NumberGiven, WordGiven, IsUnfit}
+use Rattle.hv_words.specs.Commands.{SomeText, PathGiven, TextGiven, NumberGiven, WordGiven}
+use Rattle.hv_words.specs.Arguments.{IsUnfit}
 use Rattle.hv_words.specs.Spelled.{BeginsWithDigitPair, HasNoDigitPair, BeginsWithByte, HasNoByte, escaped, spelled_front}
 
 pub spelled_is : (piece rest : List ℕ) (byte : ℕ) → Spells piece byte → spelled_front (piece ++ rest) ≡ Some (byte, rest)

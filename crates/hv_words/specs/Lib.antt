@@ -3,13 +3,11 @@ pub mod Words
 pub mod Places
 pub mod Text
 pub mod Spelled
-pub mod Arguments
-pub mod Found
-pub mod Print
-pub mod Table
-pub mod Rows
 pub mod Commands
+pub mod Rows
+pub mod Arguments
 pub mod Said
+pub mod Print
 pub use Rattle.hv_text.specs.Lines
 pub use Rattle.hv_text.specs.Number
 pub use Rattle.hv_text.specs.Path

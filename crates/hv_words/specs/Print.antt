@@ -1,10 +1,11 @@
--- How the arguments of commands are printed.
-use Rattle.std.specs.Prelude.{ℕ, ◌/◌, ◌%◌, ◌==◌, if◌then◌else◌, List, [], ◌∷◌}
+-- The lines of commands.
+use Rattle.std.specs.Prelude.{ℕ, ◌/◌, ◌%◌, ◌==◌, if◌then◌else◌, List, [], ◌∷◌, map}
 use Rattle.std.specs.Char.{is_ascii_graphic, digit_char}
 use Rattle.std.specs.Fmt.{decimal}
-use Rattle.std.specs.List.{flat_map}
+use Rattle.std.specs.List.{flat_map, join_with_byte}
 use Rattle.hv_text.specs.Path.{path_text}
-use Rattle.hv_words.specs.Arguments.{Argument, PathGiven, TextGiven, NumberGiven, WordGiven}
+use Rattle.hv_words.specs.declared.command.Command.{Command}
+use Rattle.hv_words.specs.Commands.{Argument, PathGiven, TextGiven, NumberGiven, WordGiven, row_of, arguments_of}
 
 -- a byte is printed as `\\`, as `\n`, as `\s` for a space, as itself where it is graphic, and else as `\x` and two lower-case digits
 abbrev pub byte_text : ℕ → List ℕ
@@ -21,3 +22,7 @@ argument_text (PathGiven path) = path_text path
 argument_text (TextGiven bytes) = flat_map byte_text bytes
 argument_text (NumberGiven n) = decimal n
 argument_text (WordGiven word) = word
+
+-- the line of a command has its family, its name and its arguments one space apart
+abbrev pub command_text : Command → List ℕ
+command_text c = join_with_byte 32 ((row_of c).family ∷ (row_of c).name ∷ map argument_text (arguments_of c))

@@ -1,63 +1,49 @@
--- The rows of commands.
-use Rattle.std.specs.Prelude.{ℕ, ◌&&◌, if◌then◌else◌, List, [], ◌∷◌, codes, Option, Some, None}
-use Rattle.hv_words.specs.declared.change.Change.{Change}
-use Rattle.hv_words.specs.declared.change.Change.TheVariants as change
+-- The rows by their names.
+use Rattle.std.specs.Prelude.{◌≡◌, ℕ, nat_eq, Bool, if◌then◌else◌, List, [], ◌∷◌, codes, Option, Some, None}
+use Rattle.std.specs.Cmp.Lexicographic.{pointwise}
+use Rattle.hv_words.specs.Commands.{Row, AnyPath, NamedPath, SomeText, RestCount}
 use Rattle.hv_words.specs.declared.row.RowName.{RowName}
-use Rattle.hv_words.specs.declared.row.RowName.TheVariants as row
-use Rattle.hv_words.specs.Words.{is_word}
-use Rattle.hv_words.specs.Arguments.{AnyPath, NamedPath, SomeText, RestCount, SomeWord, VcpuNumber, AnyAddress, ByteCount}
-use Rattle.hv_words.specs.Table.{Row}
-
--- the word of a change
-abbrev pub change_word : Change → List ℕ
-change_word change.Kick = codes "kick"
-change_word change.Resume = codes "resume"
-change_word change.Pause = codes "pause"
-change_word change.Halt = codes "halt"
-change_word change.Reset = codes "reset"
+use Rattle.hv_words.specs.declared.row.RowName.TheVariants.{VfsLs, VfsCat, VfsDts, VfsMkdir, VfsRm, VfsWrite, VfsAsm, VfsRun, TermRest}
 
 -- the row of a name
 abbrev pub row_named : RowName → Row
-row_named row.VfsLs = record { family = codes "vfs"; name = codes "ls"; kinds = AnyPath ∷ [] }
-row_named row.VfsCat = record { family = codes "vfs"; name = codes "cat"; kinds = AnyPath ∷ [] }
-row_named row.VfsDts = record { family = codes "vfs"; name = codes "dts"; kinds = AnyPath ∷ [] }
-row_named row.VfsMkdir = record { family = codes "vfs"; name = codes "mkdir"; kinds = NamedPath ∷ [] }
-row_named row.VfsRm = record { family = codes "vfs"; name = codes "rm"; kinds = NamedPath ∷ [] }
-row_named row.VfsWrite = record { family = codes "vfs"; name = codes "write"; kinds = NamedPath ∷ SomeText ∷ [] }
-row_named row.VfsAsm = record { family = codes "vfs"; name = codes "asm"; kinds = AnyPath ∷ NamedPath ∷ [] }
-row_named row.VfsRun = record { family = codes "vfs"; name = codes "run"; kinds = AnyPath ∷ [] }
-row_named row.TermRest = record { family = codes "term"; name = codes "rest"; kinds = RestCount ∷ [] }
-row_named row.VfsGuestLoad = record { family = codes "vfs"; name = codes "guest_load"; kinds = SomeWord ∷ AnyPath ∷ AnyAddress ∷ [] }
-row_named row.GuestList = record { family = codes "guest"; name = codes "list"; kinds = [] }
-row_named row.GuestCreate = record { family = codes "guest"; name = codes "create"; kinds = SomeWord ∷ [] }
-row_named row.GuestDestroy = record { family = codes "guest"; name = codes "destroy"; kinds = SomeWord ∷ [] }
-row_named (row.GuestChange change) = record { family = codes "guest"; name = change_word change; kinds = SomeWord ∷ [] }
-row_named row.GuestRegionAdd = record { family = codes "guest"; name = codes "region_add"; kinds = SomeWord ∷ SomeWord ∷ [] }
-row_named row.GuestRegionDel = record { family = codes "guest"; name = codes "region_del"; kinds = SomeWord ∷ SomeWord ∷ [] }
-row_named row.GuestRegions = record { family = codes "guest"; name = codes "regions"; kinds = SomeWord ∷ [] }
-row_named row.GuestMem = record { family = codes "guest"; name = codes "mem"; kinds = SomeWord ∷ AnyAddress ∷ ByteCount ∷ [] }
-row_named row.VcpuList = record { family = codes "vcpu"; name = codes "list"; kinds = [] }
-row_named (row.VcpuChange change) = record { family = codes "vcpu"; name = change_word change; kinds = VcpuNumber ∷ [] }
-row_named row.VcpuDump = record { family = codes "vcpu"; name = codes "dump"; kinds = VcpuNumber ∷ [] }
-row_named row.SerialSend = record { family = codes "vserial"; name = codes "send"; kinds = SomeWord ∷ SomeWord ∷ SomeText ∷ [] }
-row_named row.SerialDump = record { family = codes "vserial"; name = codes "dump"; kinds = SomeWord ∷ SomeWord ∷ [] }
+row_named VfsLs = record { family = codes "vfs"; name = codes "ls"; kinds = AnyPath ∷ [] }
+row_named VfsCat = record { family = codes "vfs"; name = codes "cat"; kinds = AnyPath ∷ [] }
+row_named VfsDts = record { family = codes "vfs"; name = codes "dts"; kinds = AnyPath ∷ [] }
+row_named VfsMkdir = record { family = codes "vfs"; name = codes "mkdir"; kinds = NamedPath ∷ [] }
+row_named VfsRm = record { family = codes "vfs"; name = codes "rm"; kinds = NamedPath ∷ [] }
+row_named VfsWrite = record { family = codes "vfs"; name = codes "write"; kinds = NamedPath ∷ SomeText ∷ [] }
+row_named VfsAsm = record { family = codes "vfs"; name = codes "asm"; kinds = AnyPath ∷ NamedPath ∷ [] }
+row_named VfsRun = record { family = codes "vfs"; name = codes "run"; kinds = AnyPath ∷ [] }
+row_named TermRest = record { family = codes "term"; name = codes "rest"; kinds = RestCount ∷ [] }
 
--- every row
-abbrev pub all_rows : List RowName
-all_rows =
-    row.VfsLs ∷ row.VfsCat ∷ row.VfsDts ∷ row.VfsMkdir ∷ row.VfsRm ∷ row.VfsWrite ∷ row.VfsAsm ∷ row.VfsRun ∷ row.TermRest
-    ∷ row.VfsGuestLoad ∷ row.GuestList ∷ row.GuestCreate ∷ row.GuestDestroy
-    ∷ row.GuestChange change.Kick ∷ row.GuestChange change.Resume ∷ row.GuestChange change.Pause ∷ row.GuestChange change.Halt
-    ∷ row.GuestChange change.Reset ∷ row.GuestRegionAdd ∷ row.GuestRegionDel ∷ row.GuestRegions ∷ row.GuestMem ∷ row.VcpuList
-    ∷ row.VcpuChange change.Kick ∷ row.VcpuChange change.Resume ∷ row.VcpuChange change.Pause ∷ row.VcpuChange change.Halt
-    ∷ row.VcpuChange change.Reset ∷ row.VcpuDump ∷ row.SerialSend ∷ row.SerialDump ∷ []
+-- a row has these first two words
+pub record HasWords (row : RowName) (family name : List ℕ) : Type 0 where
+  pub family_is : family ≡ (row_named row).family
+  pub name_is : name ≡ (row_named row).name
 
--- the first of some rows that has these first two words
-abbrev pub row_in : List RowName → List ℕ → List ℕ → Option RowName
-row_in [] family name = None
-row_in (r ∷ rs) family name =
-    if is_word family (row_named r).family && is_word name (row_named r).name then Some r else row_in rs family name
+-- whether a word is another
+abbrev pub is_word : List ℕ → List ℕ → Bool
+is_word word other = pointwise nat_eq word other
+
+-- the row of files with a name
+abbrev pub file_row : List ℕ → Option RowName
+file_row name =
+    if is_word name (codes "ls") then Some VfsLs else (
+    if is_word name (codes "cat") then Some VfsCat else (
+    if is_word name (codes "dts") then Some VfsDts else (
+    if is_word name (codes "mkdir") then Some VfsMkdir else (
+    if is_word name (codes "rm") then Some VfsRm else (
+    if is_word name (codes "write") then Some VfsWrite else (
+    if is_word name (codes "asm") then Some VfsAsm else (
+    if is_word name (codes "run") then Some VfsRun else None)))))))
+
+-- the row of terminals with a name
+abbrev pub rest_row : List ℕ → Option RowName
+rest_row name = if is_word name (codes "rest") then Some TermRest else None
 
 -- the row with these first two words
 abbrev pub row_with : List ℕ → List ℕ → Option RowName
-row_with family name = row_in all_rows family name
+row_with family name =
+    if is_word family (codes "vfs") then file_row name else (
+    if is_word family (codes "term") then rest_row name else None)

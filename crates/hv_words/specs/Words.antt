@@ -1,6 +1,5 @@
 -- The words of a line, and the lines of a script that are commands.
-use Rattle.std.specs.Prelude.{◌≢◌, ℕ, nat_eq, ◌==◌, ◌≤◌, not, ◌||◌, Bool, true, false, if◌then◌else◌, List, [], ◌∷◌, filter, All}
-use Rattle.std.specs.Cmp.Lexicographic.{pointwise}
+use Rattle.std.specs.Prelude.{◌≢◌, ℕ, ◌==◌, not, ◌||◌, Bool, true, false, if◌then◌else◌, List, [], ◌∷◌, filter}
 use Rattle.hv_text.specs.Lines.{script_lines}
 
 -- whether there are no bytes
@@ -21,14 +20,6 @@ pieces (b ∷ bs) = if b == 32 then [] ∷ pieces bs else onto_first b (pieces b
 -- the words of a line are its pieces that are not empty
 abbrev pub words : List ℕ → List (List ℕ)
 words line = filter (λ p. not (is_empty p)) (pieces line)
-
--- whether a word is another
-abbrev pub is_word : List ℕ → List ℕ → Bool
-is_word word other = pointwise nat_eq word other
-
--- every byte of a command line is a space or a printable character
-abbrev pub IsPrintable : List ℕ → Type 0
-IsPrintable line = All (λ b. (32 ≤ b) × (b ≤ 126)) line
 
 -- whether the first word begins with a `#`
 abbrev pub begins_comment : List (List ℕ) → Bool

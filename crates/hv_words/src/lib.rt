@@ -2,34 +2,29 @@
 //!
 //! Terms: a word is a longest piece of a line without spaces; a row is one form of command, named by
 //! its first two words, its family and its name; a command line is a line of a script that is not
-//! skipped; a change is what a command does to VCPUs, those of a guest or one.
+//! skipped.
 #![tactic(auto)]
 
 mod argument;
-mod arguments;
-mod change;
 mod command;
-mod guest_command;
 mod print;
 mod read;
 mod refusal;
 mod row;
 mod script;
-mod serial_command;
 mod text;
-mod vcpu_command;
 mod word;
 
-pub use change::Change;
+pub use argument::read_path;
 pub use command::Command;
-pub use guest_command::GuestCommand;
-pub use print::print_command;
-pub use read::{lines_are_unambiguous, lines_say_what_is_told, read_command};
+pub use print::{print_command, push_text};
+pub use read::{
+    is_printable, lines_are_unambiguous, lines_say_what_is_told, read_command, read_end,
+};
 pub use refusal::WordsRefusal;
 pub use script::{Script, count_lines};
-pub use serial_command::SerialCommand;
-pub use vcpu_command::VcpuCommand;
-pub use word::is_skipped_line;
+pub use text::read_text;
+pub use word::{is_skipped_line, next_word};
 
 #[cfg(test)]
 mod tests;

@@ -1,54 +1,120 @@
 //! Lines read as commands.
-ghost use Rattle.std.specs.Prelude.{◌≢◌, ◌↔◌, ℕ, List, [], ◌∷◌, IsTrue, Result, Err, MatchResult};
+ghost use Rattle.std.specs.Prelude.{◌≡◌, ◌≢◌, ◌↔◌, ◌≤◌, ℕ, List, [], ◌∷◌, IsTrue, Result, Ok, Err, MatchResult};
 ghost use Rattle.std.specs.declared.alloc.AllocError.{AllocError};
 ghost use Rattle.hv_words.specs.declared.command.Command.{Command};
 ghost use Rattle.hv_words.specs.declared.refusal.WordsRefusal.{WordsRefusal};
-ghost use Rattle.hv_words.specs.Words.{words, IsPrintable};
-ghost use Rattle.hv_words.specs.Arguments.{AnyPath, NamedPath, SomeText, SomeWord, AnyAddress, ByteCount, AreRefusedFrom};
-ghost use Rattle.hv_words.specs.Table.{IsReadUnlessMemory, AreReadAlike};
+ghost use Rattle.hv_words.specs.Words.{words};
+ghost use Rattle.hv_words.specs.Commands.{FitAll, AnyPath, NamedPath, SomeText, RestCount, PathGiven, TextGiven, NumberGiven, IsPrintable, Says, Gives, IsNoCommand, HasBadWord};
 ghost use Rattle.hv_words.specs.Rows.{row_named};
-ghost use Rattle.hv_words.specs.Commands.{HasArguments, Says};
+ghost use Rattle.hv_words.specs.Arguments.{Agree, AreRefusedFrom, HasArguments, IsUnlessMemory};
 ghost use Rattle.hv_words.specs.Said.{said};
 
-use crate::argument::{read_named_path, read_path, read_word};
-use crate::arguments::{
-    FIRST_ARGUMENT, address_and_count, only_count, only_named_path, only_path, only_text,
-    only_vcpu, only_word, path_and_address, read_end, two_words, word_and_text,
-};
+use crate::argument::{read_count, read_named_path, read_path};
 use crate::command::Command;
-use crate::guest_command::GuestCommand;
 use crate::refusal::WordsRefusal;
 use crate::row::{RowName, find_row};
-use crate::serial_command::SerialCommand;
-use crate::vcpu_command::VcpuCommand;
+use crate::text::read_text;
 use crate::word::next_word;
+use hv_text::{Bytes, Path};
 use std::alloc::Global;
 
+/// The number of the first word behind a row's two.
+const FIRST_ARGUMENT: usize = 3;
+
 /// Whether every byte of a line is a space or a printable character.
-fn is_printable(line: &[u8]) -> bool
+pub fn is_printable(line: &[u8]) -> bool
     ensures { IsTrue result ↔ IsPrintable line.now }
 {
     line.iter().all(|byte| matches!(*byte, b' '..=b'~'))
 }
 
+/// Nothing but spaces, where the word of this number would stand.
+pub fn read_end(text: &[u8], at: usize) -> Result<(), WordsRefusal>
+    ensures { MatchResult result
+        (λ _. words text.now ≡ [])
+        (λ refusal. AreRefusedFrom [] (words text.now) at refusal) }
+{
+    match next_word(text) {
+        Some(_) => Err(WordsRefusal::BadWords(at)),
+        None => Ok(()),
+    }
+}
+
+/// A path, and no further word.
+fn only_path(alloc: Global, text: &[u8]) -> Result<Path, WordsRefusal>
+    ensures { MatchResult result
+        (λ path. FitAll (AnyPath ∷ []) (words text.now) (PathGiven path ∷ []))
+        (λ refusal. AreRefusedFrom (AnyPath ∷ []) (words text.now) 3 refusal) }
+{
+    let Some((word, rest)) = next_word(text) else {
+        return Err(WordsRefusal::BadWords(FIRST_ARGUMENT));
+    };
+    let path = read_path(alloc, word, FIRST_ARGUMENT)?;
+    read_end(rest, FIRST_ARGUMENT + 1)?;
+    Ok(path)
+}
+
+/// A path of a name at least as the word of a number, and no further word.
+fn only_named_path(alloc: Global, text: &[u8], at: usize) -> Result<Path, WordsRefusal>
+    requires { at ≤ 4 }
+    ensures { MatchResult result
+        (λ path. FitAll (NamedPath ∷ []) (words text.now) (PathGiven path ∷ []))
+        (λ refusal. AreRefusedFrom (NamedPath ∷ []) (words text.now) at refusal) }
+{
+    let Some((word, rest)) = next_word(text) else {
+        return Err(WordsRefusal::BadWords(at));
+    };
+    let path = read_named_path(alloc, word, at)?;
+    read_end(rest, at + 1)?;
+    Ok(path)
+}
+
+/// How many steps to rest, and no further word.
+fn only_count(text: &[u8]) -> Result<u64, WordsRefusal>
+    ensures { MatchResult result
+        (λ count. FitAll (RestCount ∷ []) (words text.now) (NumberGiven count ∷ []))
+        (λ refusal. AreRefusedFrom (RestCount ∷ []) (words text.now) 3 refusal) }
+{
+    let Some((word, rest)) = next_word(text) else {
+        return Err(WordsRefusal::BadWords(FIRST_ARGUMENT));
+    };
+    let count = read_count(word, FIRST_ARGUMENT)?;
+    read_end(rest, FIRST_ARGUMENT + 1)?;
+    Ok(count)
+}
+
+/// A text as the fourth word, and no further word.
+fn only_text(alloc: Global, text: &[u8]) -> Result<Bytes, WordsRefusal>
+    ensures { MatchResult result
+        (λ bytes. FitAll (SomeText ∷ []) (words text.now) (TextGiven bytes ∷ []))
+        (λ refusal. AreRefusedFrom (SomeText ∷ []) (words text.now) 4 refusal) }
+{
+    let Some((word, rest)) = next_word(text) else {
+        return Err(WordsRefusal::BadWords(FIRST_ARGUMENT + 1));
+    };
+    let bytes = read_text(alloc, word, FIRST_ARGUMENT + 1)?;
+    read_end(rest, FIRST_ARGUMENT + 2)?;
+    Ok(bytes)
+}
+
 /// The path and the text to be written.
 fn read_write(alloc: Global, text: &[u8]) -> Result<Command, WordsRefusal>
     ensures { MatchResult result
-        (λ command. HasArguments RowName.VfsWrite (words text.now) command)
+        (λ command. HasArguments (row_named RowName.VfsWrite) (words text.now) command)
         (λ refusal. AreRefusedFrom (NamedPath ∷ SomeText ∷ []) (words text.now) 3 refusal) }
 {
     let Some((word, rest)) = next_word(text) else {
         return Err(WordsRefusal::BadWords(FIRST_ARGUMENT));
     };
     let path = read_named_path(alloc, word, FIRST_ARGUMENT)?;
-    let bytes = only_text(alloc, rest, FIRST_ARGUMENT + 1)?;
+    let bytes = only_text(alloc, rest)?;
     Ok(Command::VfsWrite(path, bytes))
 }
 
 /// The path of the text and that of its image.
 fn read_asm(alloc: Global, text: &[u8]) -> Result<Command, WordsRefusal>
     ensures { MatchResult result
-        (λ command. HasArguments RowName.VfsAsm (words text.now) command)
+        (λ command. HasArguments (row_named RowName.VfsAsm) (words text.now) command)
         (λ refusal. AreRefusedFrom (AnyPath ∷ NamedPath ∷ []) (words text.now) 3 refusal) }
 {
     let Some((word, rest)) = next_word(text) else {
@@ -59,55 +125,10 @@ fn read_asm(alloc: Global, text: &[u8]) -> Result<Command, WordsRefusal>
     Ok(Command::VfsAsm(source, target))
 }
 
-/// The guest, what is read, and where it is put.
-fn read_load(alloc: Global, text: &[u8]) -> Result<Command, WordsRefusal>
-    ensures { MatchResult result
-        (λ command. HasArguments RowName.VfsGuestLoad (words text.now) command)
-        (λ refusal. AreRefusedFrom (SomeWord ∷ AnyPath ∷ AnyAddress ∷ [])
-        (words text.now) 3 refusal) }
-{
-    let Some((word, rest)) = next_word(text) else {
-        return Err(WordsRefusal::BadWords(FIRST_ARGUMENT));
-    };
-    let name = read_word(alloc, word, FIRST_ARGUMENT)?;
-    let (path, address) = path_and_address(alloc, rest)?;
-    Ok(Command::VfsGuestLoad(name, path, address))
-}
-
-/// The guest, where to begin, and how many bytes to show.
-fn read_mem(alloc: Global, text: &[u8]) -> Result<Command, WordsRefusal>
-    ensures { MatchResult result
-        (λ command. HasArguments RowName.GuestMem (words text.now) command)
-        (λ refusal. AreRefusedFrom (SomeWord ∷ AnyAddress ∷ ByteCount ∷ [])
-        (words text.now) 3 refusal) }
-{
-    let Some((word, rest)) = next_word(text) else {
-        return Err(WordsRefusal::BadWords(FIRST_ARGUMENT));
-    };
-    let name = read_word(alloc, word, FIRST_ARGUMENT)?;
-    let (address, count) = address_and_count(rest)?;
-    Ok(Command::Guest(GuestCommand::Mem(name, address, count)))
-}
-
-/// The guest, the region, and the text that it is sent.
-fn read_send(alloc: Global, text: &[u8]) -> Result<Command, WordsRefusal>
-    ensures { MatchResult result
-        (λ command. HasArguments RowName.SerialSend (words text.now) command)
-        (λ refusal. AreRefusedFrom (SomeWord ∷ SomeWord ∷ SomeText ∷ [])
-        (words text.now) 3 refusal) }
-{
-    let Some((word, rest)) = next_word(text) else {
-        return Err(WordsRefusal::BadWords(FIRST_ARGUMENT));
-    };
-    let name = read_word(alloc, word, FIRST_ARGUMENT)?;
-    let (region, bytes) = word_and_text(alloc, rest)?;
-    Ok(Command::Serial(SerialCommand::Send(name, region, bytes)))
-}
-
 /// The command of a row whose arguments are the words of a text.
 fn read_arguments(alloc: Global, row: RowName, text: &[u8]) -> Result<Command, WordsRefusal>
     ensures { MatchResult result
-        (λ command. HasArguments row (words text.now) command)
+        (λ command. HasArguments (row_named row) (words text.now) command)
         (λ refusal. AreRefusedFrom (row_named row).kinds (words text.now) 3 refusal) }
 {
     match row {
@@ -120,53 +141,6 @@ fn read_arguments(alloc: Global, row: RowName, text: &[u8]) -> Result<Command, W
         RowName::VfsAsm => read_asm(alloc, text),
         RowName::VfsRun => Ok(Command::VfsRun(only_path(alloc, text)?)),
         RowName::TermRest => Ok(Command::TermRest(only_count(text)?)),
-        RowName::VfsGuestLoad => read_load(alloc, text),
-        RowName::GuestList => {
-            read_end(text, FIRST_ARGUMENT)?;
-            Ok(Command::Guest(GuestCommand::List))
-        }
-        RowName::GuestCreate => {
-            let name = only_word(alloc, text, FIRST_ARGUMENT)?;
-            Ok(Command::Guest(GuestCommand::Create(name)))
-        }
-        RowName::GuestDestroy => {
-            let name = only_word(alloc, text, FIRST_ARGUMENT)?;
-            Ok(Command::Guest(GuestCommand::Destroy(name)))
-        }
-        RowName::GuestChange(change) => {
-            let name = only_word(alloc, text, FIRST_ARGUMENT)?;
-            Ok(Command::Guest(GuestCommand::Change(change, name)))
-        }
-        RowName::GuestRegionAdd => {
-            let (name, region) = two_words(alloc, text)?;
-            Ok(Command::Guest(GuestCommand::RegionAdd(name, region)))
-        }
-        RowName::GuestRegionDel => {
-            let (name, region) = two_words(alloc, text)?;
-            Ok(Command::Guest(GuestCommand::RegionDel(name, region)))
-        }
-        RowName::GuestRegions => {
-            let name = only_word(alloc, text, FIRST_ARGUMENT)?;
-            Ok(Command::Guest(GuestCommand::Regions(name)))
-        }
-        RowName::GuestMem => read_mem(alloc, text),
-        RowName::VcpuList => {
-            read_end(text, FIRST_ARGUMENT)?;
-            Ok(Command::Vcpu(VcpuCommand::List))
-        }
-        RowName::VcpuChange(change) => {
-            let number = only_vcpu(text)?;
-            Ok(Command::Vcpu(VcpuCommand::Change(change, number)))
-        }
-        RowName::VcpuDump => {
-            let number = only_vcpu(text)?;
-            Ok(Command::Vcpu(VcpuCommand::Dump(number)))
-        }
-        RowName::SerialSend => read_send(alloc, text),
-        RowName::SerialDump => {
-            let (name, region) = two_words(alloc, text)?;
-            Ok(Command::Serial(SerialCommand::Dump(name, region)))
-        }
     }
 }
 
@@ -192,9 +166,10 @@ fn read_line(alloc: Global, line: &[u8]) -> Result<Command, WordsRefusal>
 /// The command that a line gives, or why it gives none.
 pub fn read_command(alloc: Global, line: &[u8]) -> Result<Command, WordsRefusal>
     ensures said { Says line.now result }
-
-    // The function tells what is read, unless memory runs out.
-    ensures told { IsReadUnlessMemory result (said line.now) }
+    ensures command { (c : Command) → Gives line.now c → IsUnlessMemory result (Ok c) }
+    ensures none { IsNoCommand line.now → IsUnlessMemory result (Err WordsRefusal.NoCommand) }
+    ensures bad { (n : ℕ) → HasBadWord line.now n
+        → IsUnlessMemory result (Err (WordsRefusal.BadWords n)) }
 {
     read_line(alloc, line)
 }
@@ -202,13 +177,13 @@ pub fn read_command(alloc: Global, line: &[u8]) -> Result<Command, WordsRefusal>
 /// A line says one thing at most: its command, that it is none, or its first bad word.
 pub fn lines_are_unambiguous()
     ensures { (line : List ℕ) (one other : Result Command WordsRefusal)
-        → Says line one → Says line other → AreReadAlike one other }
+        → Says line one → Says line other → Agree one other }
 {}
 
 /// A line says what the function tells of it, and nothing else unless memory ran out.
 pub fn lines_say_what_is_told()
     ensures exact { (line : List ℕ) (read : Result Command WordsRefusal)
-        → Says line read ↔ IsReadUnlessMemory read (said line) }
+        → Says line read ↔ IsUnlessMemory read (said line) }
     ensures definite { (line : List ℕ) (e : AllocError)
         → said line ≢ Err (WordsRefusal.Memory e) }
 {}

@@ -1,8 +1,6 @@
 //! The rows of commands.
-ghost use Rattle.std.specs.Prelude.{◌≡◌};
-ghost use Rattle.hv_words.specs.Rows.{change_word, row_named, row_in, row_with};
-
-use crate::change::Change;
+ghost use Rattle.std.specs.Prelude.{◌≡◌, IfSome, codes};
+ghost use Rattle.hv_words.specs.Rows.{file_row, rest_row, row_with, HasWords};
 
 /// A form of command, named by its first two words.
 #[derive(Clone, Copy, Debug)]
@@ -16,147 +14,59 @@ pub enum RowName {
     VfsAsm,
     VfsRun,
     TermRest,
-    VfsGuestLoad,
-    GuestList,
-    GuestCreate,
-    GuestDestroy,
-    GuestChange(Change),
-    GuestRegionAdd,
-    GuestRegionDel,
-    GuestRegions,
-    GuestMem,
-    VcpuList,
-    VcpuChange(Change),
-    VcpuDump,
-    SerialSend,
-    SerialDump,
 }
 
-/// Every row.
-const ROWS: [RowName; 31] = [
-    RowName::VfsLs,
-    RowName::VfsCat,
-    RowName::VfsDts,
-    RowName::VfsMkdir,
-    RowName::VfsRm,
-    RowName::VfsWrite,
-    RowName::VfsAsm,
-    RowName::VfsRun,
-    RowName::TermRest,
-    RowName::VfsGuestLoad,
-    RowName::GuestList,
-    RowName::GuestCreate,
-    RowName::GuestDestroy,
-    RowName::GuestChange(Change::Kick),
-    RowName::GuestChange(Change::Resume),
-    RowName::GuestChange(Change::Pause),
-    RowName::GuestChange(Change::Halt),
-    RowName::GuestChange(Change::Reset),
-    RowName::GuestRegionAdd,
-    RowName::GuestRegionDel,
-    RowName::GuestRegions,
-    RowName::GuestMem,
-    RowName::VcpuList,
-    RowName::VcpuChange(Change::Kick),
-    RowName::VcpuChange(Change::Resume),
-    RowName::VcpuChange(Change::Pause),
-    RowName::VcpuChange(Change::Halt),
-    RowName::VcpuChange(Change::Reset),
-    RowName::VcpuDump,
-    RowName::SerialSend,
-    RowName::SerialDump,
-];
-
-/// The word of a change.
-fn change_word(change: Change) -> &'static [u8]
-    ensures { result.now ≡ change_word change }
+fn file_row(name: &[u8]) -> Option<RowName>
+    ensures row { result ≡ file_row name.now }
+    ensures words { IfSome result (λ row. HasWords row (codes "vfs") name.now) }
 {
-    match change {
-        Change::Kick => b"kick",
-        Change::Resume => b"resume",
-        Change::Pause => b"pause",
-        Change::Halt => b"halt",
-        Change::Reset => b"reset",
+    if name == b"ls".as_slice() {
+        return Some(RowName::VfsLs);
     }
-}
-
-/// The first word of a row.
-pub fn family_word(row: RowName) -> &'static [u8]
-    ensures { result.now ≡ (row_named row).family }
-{
-    match row {
-        RowName::VfsLs => b"vfs",
-        RowName::VfsCat => b"vfs",
-        RowName::VfsDts => b"vfs",
-        RowName::VfsMkdir => b"vfs",
-        RowName::VfsRm => b"vfs",
-        RowName::VfsWrite => b"vfs",
-        RowName::VfsAsm => b"vfs",
-        RowName::VfsRun => b"vfs",
-        RowName::TermRest => b"term",
-        RowName::VfsGuestLoad => b"vfs",
-        RowName::GuestList => b"guest",
-        RowName::GuestCreate => b"guest",
-        RowName::GuestDestroy => b"guest",
-        RowName::GuestChange(_) => b"guest",
-        RowName::GuestRegionAdd => b"guest",
-        RowName::GuestRegionDel => b"guest",
-        RowName::GuestRegions => b"guest",
-        RowName::GuestMem => b"guest",
-        RowName::VcpuList => b"vcpu",
-        RowName::VcpuChange(_) => b"vcpu",
-        RowName::VcpuDump => b"vcpu",
-        RowName::SerialSend => b"vserial",
-        RowName::SerialDump => b"vserial",
+    if name == b"cat".as_slice() {
+        return Some(RowName::VfsCat);
     }
-}
-
-/// The second word of a row.
-pub fn name_word(row: RowName) -> &'static [u8]
-    ensures { result.now ≡ (row_named row).name }
-{
-    match row {
-        RowName::VfsLs => b"ls",
-        RowName::VfsCat => b"cat",
-        RowName::VfsDts => b"dts",
-        RowName::VfsMkdir => b"mkdir",
-        RowName::VfsRm => b"rm",
-        RowName::VfsWrite => b"write",
-        RowName::VfsAsm => b"asm",
-        RowName::VfsRun => b"run",
-        RowName::TermRest => b"rest",
-        RowName::VfsGuestLoad => b"guest_load",
-        RowName::GuestList => b"list",
-        RowName::GuestCreate => b"create",
-        RowName::GuestDestroy => b"destroy",
-        RowName::GuestChange(change) => change_word(change),
-        RowName::GuestRegionAdd => b"region_add",
-        RowName::GuestRegionDel => b"region_del",
-        RowName::GuestRegions => b"regions",
-        RowName::GuestMem => b"mem",
-        RowName::VcpuList => b"list",
-        RowName::VcpuChange(change) => change_word(change),
-        RowName::VcpuDump => b"dump",
-        RowName::SerialSend => b"send",
-        RowName::SerialDump => b"dump",
+    if name == b"dts".as_slice() {
+        return Some(RowName::VfsDts);
     }
+    if name == b"mkdir".as_slice() {
+        return Some(RowName::VfsMkdir);
+    }
+    if name == b"rm".as_slice() {
+        return Some(RowName::VfsRm);
+    }
+    if name == b"write".as_slice() {
+        return Some(RowName::VfsWrite);
+    }
+    if name == b"asm".as_slice() {
+        return Some(RowName::VfsAsm);
+    }
+    if name == b"run".as_slice() {
+        return Some(RowName::VfsRun);
+    }
+    None
 }
 
-/// The first of some rows that has a family and a name.
-fn find_in(rows: &[RowName], family: &[u8], name: &[u8]) -> Option<RowName>
-    ensures { result ≡ row_in rows.now family.now name.now }
+fn rest_row(name: &[u8]) -> Option<RowName>
+    ensures row { result ≡ rest_row name.now }
+    ensures words { IfSome result (λ row. HasWords row (codes "term") name.now) }
 {
-    for row in rows {
-        if family == family_word(*row) && name == name_word(*row) {
-            return Some(*row);
-        }
+    if name == b"rest".as_slice() {
+        return Some(RowName::TermRest);
     }
     None
 }
 
 /// The row of a family and a name.
 pub fn find_row(family: &[u8], name: &[u8]) -> Option<RowName>
-    ensures { result ≡ row_with family.now name.now }
+    ensures row { result ≡ row_with family.now name.now }
+    ensures words { IfSome result (λ row. HasWords row family.now name.now) }
 {
-    find_in(&ROWS, family, name)
+    if family == b"vfs".as_slice() {
+        return file_row(name);
+    }
+    if family == b"term".as_slice() {
+        return rest_row(name);
+    }
+    None
 }

@@ -1,7 +1,8 @@
 //! Texts with escapes.
 ghost use Rattle.std.specs.Prelude.{MatchOption, MatchResult};
 ghost use Rattle.hv_words.specs.Spelled.{BeginsWithDigitPair, HasNoDigitPair, BeginsWithByte, HasNoByte};
-ghost use Rattle.hv_words.specs.Arguments.{Fits, SomeText, TextGiven, IsRefusedAt};
+ghost use Rattle.hv_words.specs.Commands.{Fits, SomeText, TextGiven};
+ghost use Rattle.hv_words.specs.Arguments.{IsRefusedAt};
 
 use crate::refusal::WordsRefusal;
 use hv_text::Bytes;

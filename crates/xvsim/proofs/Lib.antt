@@ -1,5 +1,4 @@
 pub mod Counts
-pub mod Good
 pub mod Told
 pub mod Texts
 pub mod Named

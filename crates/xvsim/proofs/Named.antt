@@ -1,5 +1,6 @@
 -- Words name one command.
 use Rattle.std.proofs.Common.{◌≡◌, ℕ, List, inl, inr, ap, sym, ◌∙◌}
+use Rattle.std.specs.Prelude.{codes, [], ◌∷◌}
 use Rattle.std.specs.Str.Parse.{digits_value}
 use Rattle.xvsim.specs.Words.{AreRunWords, AreCheckWords, AreInputWords, AreGenWords, AreAnyGenWords}
 

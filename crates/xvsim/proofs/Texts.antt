@@ -10,7 +10,7 @@ titled_some title [] some = absurd (omega arith)
 titled_some title (b ∷ bs) some = refl
 
 -- a report's parts, as they are appended one after the other
-pub report_parts : (heading terminals states events count : List ℕ)
-    → ((((((heading ++ terminals) ++ states) ++ (codes "history" ++ 10 ∷ [])) ++ events) ++ codes "end ") ++ count) ++ 10 ∷ []
-    ≡ heading ++ terminals ++ states ++ (line (codes "history") ++ events) ++ line (codes "end " ++ count)
-report_parts heading terminals states events count = simp append_assoc refl
+pub report_parts : (heading terminals events count : List ℕ)
+    → (((((heading ++ terminals) ++ (codes "states" ++ 10 ∷ [] ++ codes "vcpu 0 Reset" ++ 10 ∷ [] ++ codes "history" ++ 10 ∷ [])) ++ events) ++ codes "end ") ++ count) ++ 10 ∷ []
+    ≡ heading ++ terminals ++ (codes "states" ++ 10 ∷ codes "vcpu 0 Reset" ++ 10 ∷ []) ++ (line (codes "history") ++ events) ++ line (codes "end " ++ count)
+report_parts heading terminals events count = simp append_assoc refl

@@ -1,7 +1,6 @@
 -- What was read: a bundle's files, with what a run and a check need of them.
 use Rattle.std.specs.Prelude.{◌≡◌, ℕ, List, Option, Bool, IsTrue, length}
 use Rattle.std.specs.Io.KnownBytes.{IsAtEnd}
-use Rattle.hv_host.specs.Rules.{KeepsBoardRules}
 use Rattle.hv_model.specs.Files.{load_files}
 use Rattle.xvsim.specs.Given.{GaveBytes}
 use Rattle.xvsim.specs.Opening.{scripts_of, HaveBoard}
@@ -14,7 +13,6 @@ pub record IsWhole (input : Input) : Type 0 where
   pub scripts : input.scripts.items ≡ scripts_of (load_files input.files.items)
   pub within : AreWithinLimits input.files.items
   pub board : HaveBoard input.files.items input.board
-  pub rules : KeepsBoardRules input.board
 
 -- the bytes are the bundle of these files, and so many
 pub record IsReadFrom (bytes : List ℕ) (input : Input) : Type 0 where

@@ -1,8 +1,7 @@
 -- What a call keeps of its run, and what it writes.
-use Rattle.std.specs.Prelude.{◌≡◌, ℕ, List, Option, Bool, true, false, IsTrue, IsSomeAnd, Any}
+use Rattle.std.specs.Prelude.{◌≡◌, ℕ, List, Option, Bool, true, false, IsTrue, IsSomeAnd, Any, map}
 use Rattle.std.specs.Io.KnownBytes.{Appends, IsAtEnd}
 use Rattle.hv_text.specs.declared.limits.TheConstants.{GREATEST_STAMP}
-use Rattle.hv_dir.specs.Pool.{devices_of}
 use Rattle.hv_emu.specs.Device.{DevState}
 use Rattle.hv_base.specs.Writing.{AppendsFront}
 use Rattle.hv_model.specs.Origin.{origin_of}
@@ -24,12 +23,12 @@ pub record IsRunOf {E : Type 0} (told left : Option (List ℕ)) (ended : Bool) (
 
 -- the history is a finished run in rounds that began with these devices, and these are the files and the devices at its end
 pub record IsFinished {E : Type 0} (state : E → DevState) (devices : List DevState) (run : KeptRunOf E) : Type 0 where
-  pub legal : IsFinishedRun (origin_of run.opening devices) run.history.items run.state.files (devices_of state run.shelf)
+  pub legal : IsFinishedRun (origin_of run.opening devices) run.history.items run.state.files (map state run.shelf.items)
   pub rounds : IsRounds (origin_of run.opening devices) run.history.items
 
 -- the history is a run with these devices that was stopped, and one of its events has the stamp that stopped it, the greatest one
 pub record IsStoppedAt {E : Type 0} (state : E → DevState) (devices : List DevState) (stamp : ℕ) (run : KeptRunOf E) : Type 0 where
-  pub legal : IsStoppedRun (origin_of run.opening devices) run.history.items run.state.files (devices_of state run.shelf)
+  pub legal : IsStoppedRun (origin_of run.opening devices) run.history.items run.state.files (map state run.shelf.items)
   pub greatest : stamp ≡ GREATEST_STAMP
   pub held : Any (λ e. e.stamp ≡ stamp) run.history.items
 

@@ -6,7 +6,6 @@ ghost use Rattle.hv_bundle.specs.declared.file.File.{File};
 ghost use Rattle.hv_bundle.specs.Bundle.{AreFitting};
 ghost use Rattle.hv_files.specs.FileMap.{read_file};
 ghost use Rattle.hv_host.specs.Boards.{Says};
-ghost use Rattle.hv_host.specs.Rules.{KeepsBoardRules};
 ghost use Rattle.hv_model.specs.Files.{load_files};
 ghost use Rattle.xvsim.specs.Opening.{script_of, scripts_of, found, host_path};
 ghost use Rattle.xvsim.specs.Limits.{AreWithinLimits};
@@ -98,7 +97,6 @@ fn host_text<'a>(alloc: Global, tree: &'a FileTree) -> Result<Option<&'a [u8]>, 
 /// The board that the files have.
 fn board_in(alloc: Global, tree: &FileTree) -> Result<Board, InputRefusal>
     ensures ok { IfOk result (λ board. Says (found (read_file tree.now host_path)) (Ok board)) }
-    ensures rules { IfOk result KeepsBoardRules }
     ensures refused { (files : List File) → tree.now ≡ load_files files → AreWithinLimits files
         → IfErr result (IsDueForFiles files) }
 {

@@ -1,5 +1,4 @@
 //! What is kept of a run.
-use hv_dir::ShelfOf;
 use hv_emu::Emulator;
 use hv_event::Event;
 use hv_files::FileTree;
@@ -19,7 +18,7 @@ pub struct KeptRunOf<E> {
     pub history: Vec<Event>,
     pub state: Final,
     /// The devices that no guest has, in the order in which they are found.
-    pub shelf: ShelfOf<E>,
+    pub shelf: Vec<E>,
 }
 
 /// The last run, where there was one, with emulators of type `E`.

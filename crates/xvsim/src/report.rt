@@ -6,11 +6,11 @@ ghost use Rattle.hv_emu.specs.Device.{DevState};
 ghost use Rattle.hv_event.specs.Line.{event_text};
 ghost use Rattle.hv_model.specs.Origin.{origin_of, terminals};
 ghost use Rattle.hv_model.specs.Report.{titled, terminals_text, heading, AreTranscripts, IsReport};
+ghost use Rattle.hv_model.specs.States.{ArePlain};
 ghost use Rattle.hv_model.specs.Transcript.{line};
 
 use hv_event::{Event, print_event};
 use hv_model::Opening;
-use hv_states::push_states;
 use hv_text::{Bytes, Strings, push_decimal};
 use std::alloc::{AllocError, Global};
 
@@ -70,22 +70,23 @@ fn push_events(alloc: Global, to: &mut Bytes, events: &[Event]) -> Result<(), Al
     Ok(())
 }
 
-/// The report of a run with this opening and history, where these are its terminals' transcripts.
+/// The report of a run with this opening and history, of which these are the terminals' transcripts.
 pub fn report_of_run(
     alloc: Global,
     opening: &Opening,
     history: &[Event],
     transcripts: &Strings,
 ) -> Result<Bytes, AllocError>
+    requires shown { (devices : List DevState)
+        → AreTranscripts (origin_of opening.now devices) history.now terminals transcripts.now }
+    requires plain { ArePlain history.now }
     ensures { IfOk result (λ text. (devices : List DevState)
-        → AreTranscripts (origin_of opening.now devices) history.now terminals transcripts.now
         → IsReport (origin_of opening.now devices) history.now false false text) }
 {
     let mut to = Bytes::from_vec(Vec::new(alloc));
     push_heading(alloc, &mut to, opening)?;
     push_terminals(alloc, &mut to, transcripts)?;
-    push_states(alloc, &mut to, false, history)?;
-    to.append(b"history\n")?;
+    to.append(b"states\nvcpu 0 Reset\nhistory\n")?;
     push_events(alloc, &mut to, history)?;
     to.append(b"end ")?;
     push_decimal(alloc, &mut to, history.len() as u64)?;

@@ -1,10 +1,7 @@
 //! A run of a bundle.
-ghost use Rattle.std.specs.Prelude.{◌≡◌, All, IfOk, map};
-ghost use Rattle.hv_emu.specs.Device.{IsInReset};
+ghost use Rattle.std.specs.Prelude.{◌≡◌, IfOk};
 ghost use Rattle.hv_model.specs.declared.opening.Opening.{Opening};
 ghost use Rattle.hv_model.specs.Files.{load_files};
-ghost use Rattle.hv_bound_laws.specs.Openings.{AreGood};
-ghost use Rattle.hv_rounds.specs.Good.{with_plans};
 ghost use Rattle.xvsim.specs.Opening.{IsOpeningOf};
 ghost use Rattle.xvsim.specs.Input.{IsWhole};
 ghost use Rattle.xvsim.specs.Made.{IsMadeFrom};
@@ -12,23 +9,19 @@ ghost use Rattle.xvsim.specs.Made.{IsMadeFrom};
 use crate::input::Input;
 use crate::kept::{Final, KeptRunOf};
 use crate::report::report_of_run;
-use hv_bound_laws::host_trees_are_good;
-use hv_dir::ShelfOf;
 use hv_emu::Emulator;
 use hv_files::FileTree;
 use hv_host::Board;
 use hv_model::Opening;
 use hv_plan::Host;
 use hv_rounds::{Outcome, run};
-use hv_terminals::Plans;
 use hv_text::{Bytes, Items, Strings};
 use std::alloc::{AllocError, Global};
 
-/// What a run begins with, where its terminals have the plans of the opening, and the tree of its files.
+/// What a run begins with, and the tree of its files.
 #[derive(Drop)]
 pub struct Start {
     pub opening: Opening,
-    pub plans: Plans,
     pub files: FileTree,
 }
 
@@ -40,14 +33,11 @@ pub enum Made<E> {
 }
 
 /// What a run of an input begins with.
-fn start_of(alloc: Global, input: Input) -> Start
+fn start_of(input: Input) -> Start
     requires { IsWhole input }
-    ensures opening { IsOpeningOf input.files.items (with_plans result.opening result.plans) }
-    ensures turns { result.opening.turns ≡ 0 }
-    ensures good { AreGood result.opening.harts result.opening.areas result.plans }
+    ensures opening { IsOpeningOf input.files.items result.opening }
     ensures loaded { result.files ≡ load_files result.opening.files }
 {
-    host_trees_are_good();
     let Input {
         size: _,
         files,
@@ -68,33 +58,10 @@ fn start_of(alloc: Global, input: Input) -> Start
             turns: 0,
             files: Items::from_vec(files),
             areas: Items::from_vec(areas),
-            plans: Items::new(alloc),
+            plans: Items::from_vec(plans),
             scripts: Strings::from_vec(scripts),
         },
-        plans: Plans::new(Items::from_vec(plans)),
         files: tree,
-    }
-}
-
-/// The opening with the plans that its terminals had.
-fn opening_with(opening: Opening, plans: Plans) -> Opening
-    ensures { result ≡ with_plans opening plans }
-{
-    let Opening {
-        harts,
-        turns,
-        files,
-        areas,
-        plans: _,
-        scripts,
-    } = opening;
-    Opening {
-        harts,
-        turns,
-        files,
-        areas,
-        plans: plans.into_guests(),
-        scripts,
     }
 }
 
@@ -104,29 +71,22 @@ pub fn make_run<E: Emulator>(
     input: Input,
     parts: Vec<E>,
 ) -> Result<Made<E>, AllocError>
-    requires whole { IsWhole input }
-    requires reset { All IsInReset (map E.state parts.items) }
+    requires { IsWhole input }
     ensures { IfOk result (λ made. (o : Opening)
-        × IsOpeningOf input.files.items o × IsMadeFrom E.state (map E.state parts.items) o made) }
+        × IsOpeningOf input.files.items o × IsMadeFrom E.state parts.items o made) }
 {
-    let Start {
-        opening,
-        plans,
-        files,
-    } = start_of(alloc, input);
-    let shelf = ShelfOf::new(parts);
+    let Start { opening, files } = start_of(input);
     let Outcome {
         history,
         files,
-        shelf,
         transcripts,
         spent,
-    } = run(alloc, &opening, &plans, files, shelf)?;
+    } = run(alloc, &opening, files)?;
     let run = KeptRunOf {
-        opening: opening_with(opening, plans),
+        opening,
         history,
         state: Final { files },
-        shelf,
+        shelf: parts,
     };
     match spent {
         Some(stamp) => Ok(Made::Stopped(run, stamp)),

@@ -31,10 +31,11 @@ fn run_bundle<S: Source, K: Sink, E: Emulator>(
     parts: Vec<E>,
     kept: &mut KeptOf<E>,
 ) -> Status
-    requires reset { All IsInReset (map E.state parts.items) }
     ensures input { IsTrue (has_run result) → IsSomeAnd kept.new.run
         (IsRunOf (S.left source.old) (S.left source.new) (S.ended source.new)) }
     ensures keeps { KeepsRun E.state (map E.state parts.items) result kept.old kept.new }
+    ensures shelf { IsTrue (has_run result)
+        → IsSomeAnd kept.new.run (λ run. run.shelf.items ≡ parts.items) }
     ensures report { result ≡ Status.Done → IsSomeAnd kept.new.run
         (AppendsReport (map E.state parts.items) (K.held sink.old) (K.held sink.new)) }
     ensures cut_short { result ≡ Status.WriteFault → IsSomeAnd kept.new.run
@@ -149,6 +150,9 @@ pub fn xvsim<S: Source, K: Sink, E: Emulator>(
     // A run that is done is finished, in rounds; one that was stopped is kept too, and else nothing changes.
     ensures keeps { AreRunWords (map string_bytes words.now)
         → KeepsRun E.state (map E.state parts.items) result kept.old kept.new }
+    // Since no guest can be made yet, the emulators are all left, in their order.
+    ensures shelf { AreRunWords (map string_bytes words.now) → IsTrue (has_run result)
+        → IsSomeAnd kept.new.run (λ run. run.shelf.items ≡ parts.items) }
     ensures kept_stays { (AreRunWords (map string_bytes words.now) → ⊥) → kept.new ≡ kept.old }
 
     // Of a run that is done exactly the report was written, and after a fault of the sink a front of it.

@@ -1,35 +1,27 @@
-use Rattle.std.proofs.Common.{◌++◌, ◌∷◌, [], Err, ap, arith}
+use Rattle.std.proofs.Common.{ℕ, Err, ap, sym, subst, lit<}
 use Rattle.std.proofs.lemmas.Bool.{false≢true}
-use Rattle.hv_model.specs.Legal.{booted}
-use Rattle.hv_rounds.proofs.PhaseLemmas.{boot-step, boot-stops, hold-some, sound-boot, stamp-rises}
+use Rattle.hv_model.specs.Session.{HasBooted}
+use Rattle.hv_rounds.specs.declared.terminal.Terminal.{Terminal}
+use Rattle.hv_rounds.specs.Cells.{session_of}
+use Rattle.hv_rounds.specs.Board.{at, FoundLast}
+use Rattle.hv_rounds.proofs.PhaseLemmas.{boot-step, item-at}
+use Rattle.hv_rounds.proofs.PhaseLemmas.{boot-smaller as stamp-rises}
 use Rattle.hv_rounds.proofs.phases.run_boot.Goals as goal
 
-pub step-requires-clause-sound : goal.step-requires-clause-sound
-step-requires-clause-sound g c =
-    let O = c.requires.0 in
-    let now = c.boot.invariant O c.requires.1 in
-    sound-boot g.E.Emulator.state O now.0 c.boot.running c.requires.1.can now.1
-
-pub step-requires-clause-some : goal.step-requires-clause-some
-step-requires-clause-some g c =
-    let O = c.requires.0 in
-    let now = c.boot.invariant O c.requires.1 in
-    hold-some g.E.Emulator.state O (booted O now.0) now.0 c.boot.running c.requires.1.can now.1.goes.comes 0 (omega arith)
-
 pub boot-smaller : goal.boot-smaller
-boot-smaller g c =
-    let O = c.requires.0 in
-    let now = c.boot.invariant O c.requires.1 in
-    stamp-rises g.E.Emulator.state O (booted O now.0) now.0 c.boot.running c.step.new.self 0 (omega arith) c.step.ensures.whole now.1.goes.comes c.in-Ok.ensures.made
+boot-smaller c = stamp-rises c.boot.board c.step.new.self c.in-Ok.entry c.in-Ok.ensures.ok
 
 pub boot-preserved : goal.boot-preserved
-boot-preserved g c = λ O can.
-    let now = c.boot.invariant O can in
-    let step = c.in-Ok.ensures.made in
-    (now.0 ++ step.event.made ∷ [], boot-step g.E.Emulator.state O now.0 c.boot.running c.step.new.self c.step.ensures.whole now.1 step (λ end. false≢true (c.boot-test.ensures.1 end)))
+boot-preserved c = λ O part.
+    let Ended : Terminal → Type 0 = λ t. HasBooted (session_of t) in
+    let not_end = λ (d : Terminal) (end : Ended (at c.boot.board 0 d)). false≢true (c.boot-test.ensures.1 (subst Ended (item-at c.boot.board 0 d c.index.result.now (lit< tt) c.index.ensures) end)) in
+    rw c.in_ok-push-in-Ok.ensures.items
+    (boot-step O c.boot.made.items c.boot.board c.step.new.self c.in-Ok.entry (c.boot.invariant O part) c.in-Ok.ensures.ok not_end)
 
 pub returns-in-Err-Spent : goal.returns-in-Err-Spent
-returns-in-Err-Spent g c = λ O can.
-    let now = c.boot.invariant O can in
-    let stops = c.in-Err-Spent.ensures.stopped c.in-Err-Spent.stamp (ap Err c.in-Err-Spent.field-0-is) in
-    boot-stops g.E.Emulator.state O now.0 c.boot.running c.step.new.self _ c.in-Err-Spent.stamp c.step.ensures.whole now.1 c.in-Err-Spent.stamp-is stops (λ end. false≢true (c.boot-test.ensures.1 end))
+returns-in-Err-Spent c = λ O part.
+    let Ended : Terminal → Type 0 = λ t. HasBooted (session_of t) in
+    let not_end = λ (d : Terminal) (end : Ended (at c.boot.board 0 d)). false≢true (c.boot-test.ensures.1 (subst Ended (item-at c.boot.board 0 d c.index.result.now (lit< tt) c.index.ensures) end)) in
+    let is = ap Err c.in-Err-Spent.field-0-is in
+    let Found : ℕ → Type 0 = FoundLast c.boot.board in
+    (c.boot.board, c.boot.invariant O part, not_end, c.in-Err-Spent.ensures.kept c.in-Err-Spent.stamp is, subst Found (sym c.in-Err-Spent.stamp-is) (c.in-Err-Spent.ensures.spent c.in-Err-Spent.stamp is))

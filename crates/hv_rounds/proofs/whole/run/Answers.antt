@@ -1,39 +1,40 @@
-use Rattle.hv_dir.specs.Pool.{devices_of}
+use Rattle.std.proofs.Common.{ℕ, Option, Some, List, [], ◌++◌, sym, subst}
+use Rattle.std.specs.Prelude.{IfOk}
+use Rattle.hv_merge.specs.Merging.{AreLogs}
+use Rattle.hv_model.specs.declared.entry.Entry.{Entry}
+use Rattle.hv_emu.specs.Device.{DevState}
 use Rattle.hv_model.specs.Origin.{origin_of}
 use Rattle.hv_rounds.specs.declared.whole.Outcome.{Outcome}
-use Rattle.hv_rounds.specs.Close.{Closes}
-use Rattle.hv_rounds.specs.Good.{with_plans}
+use Rattle.hv_rounds.specs.Phase.{BootEnds}
+use Rattle.hv_rounds.specs.Close.{logs_of, Closes}
 use Rattle.hv_rounds.specs.Outcome.{IsOutcome}
-use Rattle.hv_rounds.proofs.Ends.{end-logs, end-whole, ok-map, outcome}
-use Rattle.hv_rounds.proofs.Good.{can-run}
+use Rattle.hv_rounds.proofs.Ends.{ok-map, stopped-logs, boot-outcome}
 use Rattle.hv_rounds.proofs.whole.run.Goals as goal
 
-pub run_phases-requires : goal.run_phases-requires
-run_phases-requires g c =
-    let state = g.E.Emulator.state in
-    let O = origin_of (with_plans c.args.opening.now c.args.plans.now) (devices_of state c.args.shelf) in
-    (O, record { can = can-run state O c.requires.turns c.requires.good; boots = c.in_ok-running.ensures })
+pub close-requires : goal.close-requires
+close-requires c =
+    let O = origin_of c.args.opening.now [] in
+    let boot = c.in_ok-boot.boot.made.items in
+    let Ends : Option ℕ → Type 0 = λ s. BootEnds O boot c.run_boot.new.board s in
+    let Logs : List Entry → Type 0 = λ es. AreLogs (logs_of (boot ++ es)) in
+    let ends = subst Ends c.in-Some.is (c.in_ok-boot.ensures O (c.in_ok-board.ensures [])) in
+    subst Logs (sym c.new-none.ensures.items) (stopped-logs O boot c.run_boot.new.board c.in-Some.stamp ends)
 
-pub close-requires-clause-whole : goal.close-requires-clause-whole
-close-requires-clause-whole g c =
-    let state = g.E.Emulator.state in
-    let O = origin_of (with_plans c.args.opening.now c.args.plans.now) (devices_of state c.args.shelf) in
-    let ends = c.in_ok-spent.ensures O (record { can = can-run state O c.requires.turns c.requires.good; boots = c.in_ok-running.ensures }) in
-    end-whole state O c.run_phases.new.running c.in_ok-spent.spent ends
+pub run_on-requires-clause-booted : goal.run_on-requires-clause-booted
+run_on-requires-clause-booted c = λ ds.
+    let O = origin_of c.args.opening.now ds in
+    let Ends : Option ℕ → Type 0 = λ s. BootEnds O c.in_ok-boot.boot.made.items c.run_boot.new.board s in
+    let ends = subst Ends c.in-None.is (c.in_ok-boot.ensures O (c.in_ok-board.ensures ds)) in
+    record { part = ends.0; ended = ends.1 }
 
-pub close-requires-clause-logs : goal.close-requires-clause-logs
-close-requires-clause-logs g c =
-    let state = g.E.Emulator.state in
-    let O = origin_of (with_plans c.args.opening.now c.args.plans.now) (devices_of state c.args.shelf) in
-    let ends = c.in_ok-spent.ensures O (record { can = can-run state O c.requires.turns c.requires.good; boots = c.in_ok-running.ensures }) in
-    end-logs state O c.run_phases.new.running c.in_ok-spent.spent ends
-
-pub returns : goal.returns
-returns g c =
-    let state = g.E.Emulator.state in
-    let O = origin_of (with_plans c.args.opening.now c.args.plans.now) (devices_of state c.args.shelf) in
-    let running = c.run_phases.new.running in
-    let spent = c.in_ok-spent.spent in
-    let ends = c.in_ok-spent.ensures O (record { can = can-run state O c.requires.turns c.requires.good; boots = c.in_ok-running.ensures }) in
-    ok-map (λ (o : Outcome _). Closes running spent o) (λ (o : Outcome _). IsOutcome state O o o.spent) c.close.result
-    (λ o closes. outcome state O running spent o c.requires.turns ends closes) c.close.ensures
+pub returns-in-Some : goal.returns-in-Some
+returns-in-Some c =
+    let O = origin_of c.args.opening.now in
+    let boot = c.in_ok-boot.boot.made.items in
+    let Ends : List DevState → Option ℕ → Type 0 = λ ds s. BootEnds (O ds) boot c.run_boot.new.board s in
+    let ends = λ (ds : List DevState). subst (Ends ds) c.in-Some.is (c.in_ok-boot.ensures (O ds) (c.in_ok-board.ensures ds)) in
+    let Closed : Outcome → Type 0 = λ o. Closes c.run_boot.new.board (boot ++ []) (Some c.in-Some.stamp) o in
+    let Made : List Entry → Type 0 = λ es. IfOk c.close.result (λ (o : Outcome). Closes c.run_boot.new.board (boot ++ es) (Some c.in-Some.stamp) o) in
+    ok-map Closed (λ (o : Outcome). (ds : List DevState) → IsOutcome (O ds) o o.spent) c.close.result
+    (λ o k ds. boot-outcome (O ds) boot c.run_boot.new.board c.in-Some.stamp o (ends ds) k)
+    (subst Made c.new-none.ensures.items c.close.ensures)

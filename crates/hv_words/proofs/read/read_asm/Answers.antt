@@ -1,7 +1,7 @@
 use Rattle.std.proofs.Common.{[], ◌∷◌}
 use Rattle.std.proofs.lemmas.Result.{err_from_is_err_and}
 use Rattle.hv_words.specs.Words.{words}
-use Rattle.hv_words.specs.Arguments.{AnyPath, NamedPath, PathGiven}
+use Rattle.hv_words.specs.Commands.{AnyPath, NamedPath, PathGiven}
 use Rattle.hv_words.proofs.ArgumentLemmas.{refused_later}
 use Rattle.hv_words.proofs.read.read_asm.Goals as goal
 

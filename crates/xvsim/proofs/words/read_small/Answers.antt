@@ -1,5 +1,6 @@
-use Rattle.std.proofs.Common.{arith}
+use Rattle.std.proofs.Common.{◌≡◌, ◌<◌, length, arith}
 use Rattle.std.proofs.lemmas.Bool.Decides.{nat_tests}
+use Rattle.hv_text.specs.Number.{digits_front}
 use Rattle.hv_text.proofs.Numbers.{each_digit, front_all}
 use Rattle.xvsim.proofs.words.read_small.Goals as goal
 

@@ -6,7 +6,7 @@ use Rattle.hv_terminals.specs.Due.{room_for}
 use Rattle.hv_terminals.specs.Scripts.{begun_depth, begun_line}
 use Rattle.hv_terminals.specs.Session.{SessionKept}
 use Rattle.hv_terminals.specs.Task.{IsDueOf}
-use Rattle.hv_terminals.proofs.Sessions.{begins-of-begun, due-of-begun}
+use Rattle.hv_terminals.proofs.Sessions.{due-of-begun}
 use Rattle.hv_terminals.proofs.session.Session.due_next.Goals as goal
 
 pub returns-clause-due : goal.returns-clause-due
@@ -17,9 +17,3 @@ returns-clause-due c =
     (subst (λ (room : Option ℕ). IsDueOf c.args.plans.now room (task_of c.args.plans.now c.in-Some.line.now (said c.in-Some.line.now)) c.in_ok-due_of_command.field-0)
     (c.room_for-room.ensures ∙ ap (λ (s : SessionKept). room_for c.depth.result s.session.lines) c.self.view_is)
     c.in_ok-due_of_command.ensures.due)
-
-pub returns-clause-begins : goal.returns-clause-begins
-returns-clause-begins c =
-    c.in_ok-due_of_command.ensures.begins
-    ∙ begins-of-begun c.args.plans.now c.args.self.now.session c.in-Some.line.now c.requires
-    (sym (ap (λ (s : SessionKept). begun_line (begun s.session)) c.self.view_is) ∙ sym c.line.ensures ∙ ap option_copied c.in-Some.is)
